@@ -1,0 +1,29 @@
+//! What every crate of the project graph speaks of: the types of ids, values, steps and rules, and
+//! in `specs/` the definitions that the whole tool is proved against.
+//!
+//! A newcomer reads `specs/` first, in the order of its `Lib.antt`: what a graph is, when it is
+//! sound, what a chain and the sources of an input are, which rule an endpoint has, which value a
+//! rule gives, and what a step does to a graph. `docs/DEFINITIONS.md` walks through them.
+//!
+//! Layers above may use all that is public here. Want of memory is std's `AllocError`.
+#![tactic(auto)]
+
+mod answer;
+mod datum;
+mod graph;
+mod ids;
+mod rule;
+mod schema;
+mod step;
+mod steps;
+mod text;
+
+pub use answer::{Answer, Fault, FaultCode, Faults, Held};
+pub use datum::{Datum, FieldOf, Fields, Items, PType, PropVal, V3, V4};
+pub use graph::{Node, Origin};
+pub use ids::{ArcRec, Endpoint, Kind, Label, NodeId};
+pub use rule::{ArgRule, ArgRules, Ends, Props, Rule};
+pub use schema::{ArgVal, Ty};
+pub use step::{NodeRef, Step};
+pub use steps::Steps;
+pub use text::Str;
