@@ -1,5 +1,5 @@
 -- The weight of a list or a record is that of its members.
-use Rattle.std.proofs.Common.{◌≡◌, ℕ, ◌+◌, List, refl, sym, ap, ◌∙◌, sum_by}
+use Rattle.std.proofs.Common.{◌≡◌, ◌+◌, List, refl, sym, ap, ◌∙◌}
 use Rattle.std.proofs.lemmas.List.Sums.{sum_by-cons}
 use mathlib.Core.Former.{Count}
 use Rattle.dg_base.specs.Weight.{weight, weight_of_items, weight_of_fields, weights_of, field_weights_of}

@@ -17,13 +17,14 @@ mod schema;
 mod step;
 mod steps;
 mod text;
+pub mod worked;
 
 pub use answer::{Answer, Fault, FaultCode, Faults, Held};
 pub use datum::{Datum, FieldOf, Fields, Items, PType, PropVal, V3, V4};
 pub use graph::{Node, Origin};
 pub use ids::{ArcRec, Endpoint, Kind, Label, NodeId};
 pub use rule::{ArgRule, ArgRules, Ends, Props, Rule};
-pub use schema::{ArgVal, Ty};
-pub use step::{NodeRef, Step};
+pub use schema::{ArgSpec, ArgVal, Helds, Made, Role, Schema, Ty};
+pub use step::{NodeRef, Step, TxCode};
 pub use steps::Steps;
 pub use text::Str;

@@ -51,3 +51,17 @@ pub enum Step {
         defective: bool,
     },
 }
+
+/// Why a step is refused. A limit stands first where it is met, then what the step names.
+#[derive(Clone, Copy, PartialEq, Eq, Debug)]
+pub enum TxCode {
+    TooManyNodes,
+    TooManyArcs,
+    NoNode,
+    NotProperty,
+    ValueType,
+    NotOutput,
+    NotInput,
+    ArcType,
+    NoArc,
+}

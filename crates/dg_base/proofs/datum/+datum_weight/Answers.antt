@@ -1,4 +1,4 @@
-use Rattle.std.proofs.Common.{rules, arith, ◌≡◌, ◌∙◌, ap, sym}
+use Rattle.std.proofs.Common.{arith, ◌∙◌, ap}
 use Rattle.dg_base.specs.Weight.{weight}
 use Rattle.dg_base.proofs.Weights.{weight-List, weight-Rec}
 use Rattle.dg_base.proofs.datum.+datum_weight.Goals as goal

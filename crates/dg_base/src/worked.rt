@@ -1,0 +1,95 @@
+//! Worked cases: each function here has an empty body, and its contract states what the definitions
+//! give on a small graph of `specs/Worked.antt`. The checker computes them.
+ghost use Rattle.std.specs.Prelude.{◌≡◌, [], ◌∷◌, Ok, Err, Some, None, pos};
+ghost use Rattle.dg_base.specs.declared.answer.Answer.TheVariants as answer;
+ghost use Rattle.dg_base.specs.declared.answer.FaultCode.TheVariants as code;
+ghost use Rattle.dg_base.specs.declared.datum.Datum.TheVariants as datum;
+ghost use Rattle.dg_base.specs.declared.rule.Rule.TheVariants as rule;
+ghost use Rattle.dg_base.specs.declared.step.TxCode.TheVariants as tx;
+ghost use Rattle.dg_base.specs.Apply.{make_step, set_step, connect_step, changed_to, with_value};
+ghost use Rattle.dg_base.specs.Chain.{heirs};
+ghost use Rattle.dg_base.specs.First.{num, value, terms, extra, total, first_tables};
+ghost use Rattle.dg_base.specs.Rule.{rule_of, dependencies};
+ghost use Rattle.dg_base.specs.Sound.{IsSound, arc_fits};
+ghost use Rattle.dg_base.specs.Sources.{sources};
+ghost use Rattle.dg_base.specs.Value.{value_at, one_fault};
+ghost use Rattle.dg_base.specs.Worked.{at, arc_from, node_id, whole, three_and_four, ten_large, own_term, marked_source, marked_property, inheriting, replaced_source, explicit_source, kept_of, two_extras, one_extra, other_extra, begun};
+
+/// Two numbers and their sum.
+pub fn adds()
+    ensures value { value_at first_tables three_and_four (at 3 total) ≡ answer.Good (whole 7) }
+    ensures reads { dependencies first_tables three_and_four (at 3 total) ≡ at 1 value ∷ at 2 value ∷ [] }
+{}
+
+/// A sum past the largest number is a fault of the sum.
+pub fn overflows()
+    ensures { value_at first_tables ten_large (at 11 total) ≡ one_fault (at 11 total) code.Range }
+{}
+
+/// An endpoint on a cycle and one that reaches it answer so, and no substitute hides it.
+pub fn cycles()
+    ensures on_it { value_at first_tables own_term (at 1 total) ≡ answer.Cycle }
+    ensures reaches { value_at first_tables own_term (at 2 total) ≡ answer.Cycle }
+{}
+
+/// The outputs of a marked node are defective; a substitute stands in for such a source where the
+/// input has one, and the faults are handed on where it has none. A marked node's properties stay
+/// readable.
+pub fn marks()
+    ensures marked { value_at first_tables marked_source (at 1 total) ≡ one_fault (at 1 total) code.Defective }
+    ensures replaced { value_at first_tables marked_source (at 2 total) ≡ answer.Good (whole 0) }
+    ensures handed_on { value_at first_tables marked_source (at 3 total) ≡ one_fault (at 1 total) code.Defective }
+    ensures readable { value_at first_tables marked_property (at 1 value) ≡ answer.Good (whole 5) }
+{}
+
+/// What isn't there has no rule.
+pub fn absent()
+    ensures node { value_at first_tables three_and_four (at 4 total) ≡ one_fault (at 4 total) code.NoEndpoint }
+    ensures input { rule_of first_tables three_and_four (at 3 terms) ≡ rule.Absent }
+{}
+
+/// An override node reads its original's value until it has its own.
+pub fn inherits()
+    ensures from { rule_of first_tables inheriting (at 2 value) ≡ rule.From (at 1 value) }
+    ensures inherited { value_at first_tables inheriting (at 2 value) ≡ answer.Good (whole 5) }
+    ensures own { value_at first_tables inheriting (at 3 value) ≡ answer.Good (whole 6) }
+    ensures heirs { heirs inheriting (node_id 1) ≡ node_id 1 ∷ node_id 2 ∷ node_id 3 ∷ [] }
+{}
+
+/// Inherited sources are replaced by the override nodes of the same override, and explicit sources
+/// replace all inherited ones.
+pub fn replaces()
+    ensures original { sources replaced_source (node_id 2) terms ≡ at 1 value ∷ [] }
+    ensures replaced { sources replaced_source (node_id 3) terms ≡ at 4 value ∷ [] }
+    ensures value { value_at first_tables replaced_source (at 3 total) ≡ answer.Good (whole 6) }
+    ensures explicit { value_at first_tables explicit_source (at 3 total) ≡ answer.Good (whole 8) }
+    ensures untouched { value_at first_tables explicit_source (at 2 total) ≡ answer.Good (whole 5) }
+{}
+
+/// Of 65 different faults the first 64 are kept.
+pub fn keeps_64()
+    ensures { kept_of 65 ≡ 64 }
+{}
+
+/// A graph may be sound or not.
+pub fn is_checked()
+    ensures sound { IsSound first_tables replaced_source }
+    ensures unsound { IsSound first_tables two_extras → ⊥ }
+{}
+
+/// A step gives a graph, or the first code that fits: no such node, then the source, the input, the
+/// types. An arc that is there already changes nothing, and into a single input the new arc
+/// replaces the old one.
+pub fn steps()
+    ensures set { set_step first_tables (begun three_and_four 4) (Some (node_id 1)) value (whole 5)
+        ≡ Ok (begun (with_value three_and_four (node_id 1) value (whole 5)) 4) }
+    ensures no_property { set_step first_tables (begun three_and_four 4) (Some (node_id 3)) value (whole 5) ≡ Err tx.NotProperty }
+    ensures wrong_type { set_step first_tables (begun three_and_four 4) (Some (node_id 1)) value datum.Nil ≡ Err tx.ValueType }
+    ensures no_node { connect_step first_tables (begun three_and_four 4) None terms (Some (node_id 1)) terms ≡ Err tx.NoNode }
+    ensures not_output { connect_step first_tables (begun three_and_four 4) (Some (node_id 3)) terms (Some (node_id 1)) terms ≡ Err tx.NotOutput }
+    ensures not_input { connect_step first_tables (begun three_and_four 4) (Some (node_id 1)) value (Some (node_id 3)) total ≡ Err tx.NotInput }
+    ensures again { connect_step first_tables (begun three_and_four 4) (Some (node_id 1)) value (Some (node_id 3)) terms
+        ≡ Ok (begun three_and_four 4) }
+    ensures replaces { connect_step first_tables (begun one_extra 4) (Some (node_id 2)) value (Some (node_id 3)) extra ≡ Ok (begun other_extra 4) }
+    ensures too_many { make_step (begun three_and_four 262145) num ≡ Err tx.TooManyNodes }
+{}
