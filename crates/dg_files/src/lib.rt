@@ -1,0 +1,19 @@
+//! The outside: files that are listed, read and written by their paths, and a sink that takes bytes.
+//!
+//! A layer above is generic over the traits `Files` and `Sink`, whose clauses are all that is assumed
+//! of the outside: what an answer says of the tree or of the bytes written, where these are told,
+//! and that each failure raises a count. `specs/Tree.antt` says what a tree is, what its paths
+//! have, what is listed and what a write leaves.
+//!
+//! `MemFiles` and `MemSink` keep everything in memory, tell it, and fail at the calls that they are
+//! given. `DirFiles` over a folder and `StdSink` over standard output are the edge to the system:
+//! they tell nothing of their content and count their failures.
+#![tactic(auto)]
+
+mod files;
+mod refusal;
+mod sink;
+
+pub use files::{Bytes, Files, Got, Listing, Paths};
+pub use refusal::Refusal;
+pub use sink::Sink;
