@@ -10,10 +10,22 @@
 //! they tell nothing of their content and count their failures.
 #![tactic(auto)]
 
+mod calls;
+mod entries;
+mod fault_count;
 mod files;
+mod listed;
+mod memory_files;
+mod memory_sink;
+mod output;
 mod refusal;
 mod sink;
 
+pub use entries::are_distinct;
 pub use files::{Bytes, Files, Got, Listing, Paths};
+pub use listed::is_listed;
+pub use memory_files::MemFiles;
+pub use memory_sink::MemSink;
+pub use output::StdSink;
 pub use refusal::Refusal;
 pub use sink::Sink;
