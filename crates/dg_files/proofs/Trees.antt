@@ -12,9 +12,9 @@ pub bytes_at-tree_of : (files : List Entry) (path : List ℕ) →
 bytes_at-tree_of [] path = refl
 bytes_at-tree_of (file ∷ files) path =
     elim (is_same (string_bytes file.0) path) as (λ same.
-        (if same then Some file.1.items else bytes_at (tree_of files) path)
-        ≡ option_map (λ f. f.1.items) (slice_get (file ∷ files) (if same then 0 else suc (place_in (tree_of files) path))))
-      [ true ↦ refl | false ↦ bytes_at-tree_of files path ]
+    (if same then Some file.1.items else bytes_at (tree_of files) path)
+    ≡ option_map (λ f. f.1.items) (slice_get (file ∷ files) (if same then 0 else suc (place_in (tree_of files) path))))
+    [ true ↦ refl | false ↦ bytes_at-tree_of files path ]
 
 pub tree_of-slice_set : (files : List Entry) (path : List ℕ) (entry : Entry) (bytes : Vec ℕ Global) →
     place_in (tree_of files) path < length files →
@@ -26,13 +26,13 @@ tree_of-slice_set (file ∷ files) path entry bytes within is =
   where
     by_case : (same : Bool) →
         (place_in (tree_of files) path < length files →
-          entry ≡ slice_index_or files (place_in (tree_of files) path) entry →
-          tree_of (slice_set files (place_in (tree_of files) path) (entry.0, bytes)) ≡ written (tree_of files) path bytes.items) →
+        entry ≡ slice_index_or files (place_in (tree_of files) path) entry →
+        tree_of (slice_set files (place_in (tree_of files) path) (entry.0, bytes)) ≡ written (tree_of files) path bytes.items) →
         (if same then 0 else suc (place_in (tree_of files) path)) < suc (length files) →
         entry ≡ slice_index_or (file ∷ files) (if same then 0 else suc (place_in (tree_of files) path)) entry →
         tree_of (slice_set (file ∷ files) (if same then 0 else suc (place_in (tree_of files) path)) (entry.0, bytes))
         ≡ (if same then record { path = string_bytes file.0; bytes = bytes.items } ∷ tree_of files
-           else record { path = string_bytes file.0; bytes = file.1.items } ∷ written (tree_of files) path bytes.items)
+        else record { path = string_bytes file.0; bytes = file.1.items } ∷ written (tree_of files) path bytes.items)
     by_case true rest within is = ap (λ (e : Entry). tree_of ((e.0, bytes) ∷ files)) is
     by_case false rest within is =
         ap (λ (t : Tree). record { path = string_bytes file.0; bytes = file.1.items } ∷ t) (rest (omega arith) is)
@@ -58,7 +58,7 @@ tree_of-append (file ∷ files) path name bytes beyond is =
         suc (length files) ≤ (if same then 0 else suc (place_in (tree_of files) path)) →
         record { path = string_bytes file.0; bytes = file.1.items } ∷ tree_of (files ++ (name, bytes) ∷ [])
         ≡ (if same then record { path = string_bytes file.0; bytes = bytes.items } ∷ tree_of files
-           else record { path = string_bytes file.0; bytes = file.1.items } ∷ written (tree_of files) path bytes.items)
+        else record { path = string_bytes file.0; bytes = file.1.items } ∷ written (tree_of files) path bytes.items)
     by_case true rest beyond = absurd (omega arith)
     by_case false rest beyond =
         ap (λ (t : Tree). record { path = string_bytes file.0; bytes = file.1.items } ∷ t) (rest (omega arith))
@@ -85,11 +85,12 @@ pub are_distinct-written : (files : Tree) (path bytes : List ℕ) → are_distin
 are_distinct-written [] path bytes distinct = refl
 are_distinct-written (file ∷ files) path bytes distinct =
     by_case (is_same file.path path) (bytes_decides file.path path).1
-      (are_distinct-written files path bytes (and_parts (is_none (bytes_at files file.path)) (are_distinct files) distinct).1)
+    (are_distinct-written files path bytes (and_parts (is_none (bytes_at files file.path)) (are_distinct files) distinct).1)
   where
     differs : (same : Bool) → (is_same path file.path ≡ same) → (path ≡ file.path → false ≡ true) → same ≡ false
     differs false e others = refl
     differs true e others = sym (others ((bytes_decides path file.path).0 e))
+
     by_case : (same : Bool) → (file.path ≡ path → same ≡ true) →
         are_distinct (written files path bytes) ≡ true →
         are_distinct (if same then record { path = file.path; bytes = bytes } ∷ files else file ∷ written files path bytes) ≡ true
@@ -97,3 +98,23 @@ are_distinct-written (file ∷ files) path bytes distinct =
     by_case false is rest =
         let off = differs (is_same path file.path) refl (λ e. is (sym e)) in
         rw (bytes_at-written files path bytes file.path off, rest, (and_parts (is_none (bytes_at files file.path)) (are_distinct files) distinct).0) refl
+
+-- a write is read back
+pub bytes_at-written_same : (files : Tree) (path bytes : List ℕ) → bytes_at (written files path bytes) path ≡ Some bytes
+bytes_at-written_same [] path bytes =
+    ap (λ same. if same then Some bytes else None) ((bytes_decides path path).1 refl)
+bytes_at-written_same (file ∷ files) path bytes =
+    by_case (is_same file.path path) refl (bytes_at-written_same files path bytes)
+  where
+    by_case : (same : Bool) → is_same file.path path ≡ same → bytes_at (written files path bytes) path ≡ Some bytes →
+        bytes_at (if same then record { path = file.path; bytes = bytes } ∷ files else file ∷ written files path bytes) path ≡ Some bytes
+    by_case true is rest = rw is refl
+    by_case false is rest = rw is rest
+
+-- paths that differ are told apart
+pub is_same-differs : (path other : List ℕ) → other ≢ path → is_same path other ≡ false
+is_same-differs path other differs = by_case (is_same path other) (bytes_decides path other).0
+  where
+    by_case : (same : Bool) → (same ≡ true → path ≡ other) → same ≡ false
+    by_case false is = refl
+    by_case true is = absurd (differs (sym (is refl)))

@@ -1,9 +1,8 @@
 ghost use Rattle.std.specs.Prelude.{◌≡◌, ◌≤◌, []};
 
-use std::marker::Model;
-
 use super::fault_count::FaultCount;
 use super::refusal::Refusal;
+use std::marker::Model;
 
 /// Which calls of an object in memory fail, by their numbers from 1, and how many did. Both counts
 /// stop at the greatest u64.

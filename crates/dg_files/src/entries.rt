@@ -3,12 +3,11 @@ ghost use Rattle.std.specs.Option.{option_map};
 ghost use Rattle.dg_files.specs.Tree.{are_distinct, bytes_at, listed, written};
 ghost use Rattle.dg_files.specs.Kept.{tree_of, place_in};
 
+use super::files::Paths;
+use super::listed::is_listed;
 use dg_base::Str;
 use sqlite_items::at;
 use std::alloc::{AllocError, Global};
-
-use super::files::Paths;
-use super::listed::is_listed;
 
 /// How many files stand before that of the path, which is all of them where there is none.
 pub fn place_in(files: &[(String, Vec<u8>)], path: &str) -> usize

@@ -1,9 +1,10 @@
 ghost use Rattle.std.specs.Prelude.{◌≡◌, ℕ, ◌≤◌};
 ghost use Rattle.dg_files.specs.Plan.{one_more};
-
-use std::marker::Model;
+ghost use Rattle.dg_files.specs.Outcome.{Rose};
 
 use super::refusal::Refusal;
+use std::io::ErrorKind;
+use std::marker::Model;
 
 /// How often an object of the outside has failed, up to the greatest u64.
 #[derive(Debug, Drop)]
@@ -39,5 +40,17 @@ impl FaultCount {
     {
         self.number = self.number.saturating_add(1);
         Refusal::Failed
+    }
+
+    /// What an error of the system is: want of memory, which isn't counted, or a failure.
+    pub fn refusal(&mut self, kind: ErrorKind) -> Refusal
+        ensures failed { result ≡ Refusal.Failed → Rose self.old self.new }
+        ensures rises { self.old ≤ self.new }
+    {
+        if kind == ErrorKind::OutOfMemory {
+            Refusal::NoMemory
+        } else {
+            self.failure()
+        }
     }
 }

@@ -12,6 +12,9 @@ pub type Bytes = Items<u8>;
 /// Paths, in the order of their listing.
 pub type Paths = Items<Str>;
 
+/// How many paths a listing gives at most.
+pub const MOST_LISTED: usize = 65_536;
+
 /// What a read found.
 #[derive(Debug, Drop)]
 pub enum Got {

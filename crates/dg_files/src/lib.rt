@@ -14,6 +14,8 @@ mod calls;
 mod entries;
 mod fault_count;
 mod files;
+mod folder;
+mod law;
 mod listed;
 mod memory_files;
 mod memory_sink;
@@ -22,10 +24,15 @@ mod refusal;
 mod sink;
 
 pub use entries::are_distinct;
-pub use files::{Bytes, Files, Got, Listing, Paths};
+pub use files::{Bytes, Files, Got, Listing, MOST_LISTED, Paths};
+pub use folder::DirFiles;
+pub use law::writes_are_read_back;
 pub use listed::is_listed;
 pub use memory_files::MemFiles;
 pub use memory_sink::MemSink;
 pub use output::StdSink;
 pub use refusal::Refusal;
 pub use sink::Sink;
+
+#[cfg(test)]
+mod tests;

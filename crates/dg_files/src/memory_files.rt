@@ -3,16 +3,12 @@ ghost use Rattle.std.specs.Option.{option_map};
 ghost use Rattle.dg_files.specs.Tree.{are_distinct, bytes_at, got_of, listing_of};
 ghost use Rattle.dg_files.specs.Kept.{tree_of};
 
-use std::alloc::{AllocError, Global};
-use std::marker::Model;
-
 use super::calls::Calls;
 use super::entries;
-use super::files::{Bytes, Files, Got, Listing};
+use super::files::{Bytes, Files, Got, Listing, MOST_LISTED};
 use super::refusal::Refusal;
-
-/// How many paths a listing gives at most.
-const MOST_LISTED: usize = 65_536;
+use std::alloc::{AllocError, Global};
+use std::marker::Model;
 
 /// Files in memory, which fail at the calls that they are given.
 #[derive(Debug, Drop)]

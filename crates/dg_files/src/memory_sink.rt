@@ -1,12 +1,11 @@
 ghost use Rattle.std.specs.Prelude.{◌≡◌, ℕ, ◌<◌, ◌≤◌, ◌↔◌, [], ◌++◌, min, length, take, Some, IsTrue, IfOk, OnErr, IsErrOf};
 ghost use Rattle.std.specs.Option.{option_map};
 
-use std::alloc::Global;
-use std::marker::Model;
-
 use super::calls::Calls;
 use super::refusal::Refusal;
 use super::sink::Sink;
+use std::alloc::Global;
+use std::marker::Model;
 
 /// A sink in memory, which takes at most so many bytes at a call, and fails at the calls that it is
 /// given.

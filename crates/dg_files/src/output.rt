@@ -1,11 +1,10 @@
 ghost use Rattle.std.specs.Prelude.{◌≡◌, ℕ};
 
-use std::io::{self, Write};
-use std::marker::Model;
-
 use super::fault_count::FaultCount;
 use super::refusal::Refusal;
 use super::sink::Sink;
+use std::io::{self, Write};
+use std::marker::Model;
 
 /// Standard output. It tells nothing of what was written. Contracts see how often it has failed, up
 /// to the greatest u64.
