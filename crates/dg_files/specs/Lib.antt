@@ -1,0 +1,5 @@
+pub mod Tree
+pub mod Outcome
+pub mod Plan
+pub mod Taken
+pub mod Kept
