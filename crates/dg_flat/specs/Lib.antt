@@ -1,0 +1,4 @@
+-- In reading order.
+pub mod Code
+pub mod Numbered
+pub mod Places
