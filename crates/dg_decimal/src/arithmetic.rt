@@ -1,0 +1,30 @@
+//! Sums and products of values.
+ghost use Rattle.std.specs.Prelude.{◌+ℤ◌, OkIff, FitsSigned};
+ghost use Rattle.std.specs.Int.{w64};
+ghost use Rattle.dg_decimal.specs.Arithmetic.{product};
+
+use crate::reading::signed;
+use crate::refusal::Range;
+
+// How many billionths one is.
+const BILLION: u128 = 1_000_000_000;
+
+/// The product of two numbers of billionths, exact and then rounded once to a whole number of billionths, halves away
+/// from zero; `Range` where that is outside the signed 64-bit numbers.
+pub fn mul(a: i64, b: i64) -> Result<i64, Range>
+    ensures { OkIff result (FitsSigned w64 (product a b)) (product a b) }
+{
+    let exact = i128::from(a) * i128::from(b);
+    let magnitude = (2 * exact.unsigned_abs() + BILLION) / (2 * BILLION);
+    match signed(exact < 0, magnitude) {
+        Some(value) => Ok(value),
+        None => Err(Range),
+    }
+}
+
+/// The exact sum of two numbers of billionths; `Range` where it is outside the signed 64-bit numbers.
+pub fn add(a: i64, b: i64) -> Result<i64, Range>
+    ensures { OkIff result (FitsSigned w64 (a +ℤ b)) (a +ℤ b) }
+{
+    a.checked_add(b).ok_or(Range)
+}
