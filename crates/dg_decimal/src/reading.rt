@@ -16,6 +16,7 @@ use crate::refusal::DecimalRefusal;
 /// Any other text is [`DecimalRefusal::NotNumber`], and a number whose rounded value is outside the signed 64-bit
 /// numbers is [`DecimalRefusal::Range`]. The time is linear in the text, whatever its exponent says, and no memory is
 /// taken.
+#[tactic(auto, using(crate::proofs::Grammar::refusals))]
 pub fn read(text: &str) -> Result<i64, DecimalRefusal>
     ensures answer { result ≡ reading text.now }
 
@@ -24,7 +25,13 @@ pub fn read(text: &str) -> Result<i64, DecimalRefusal>
     ensures number { (n : Number) → Spells text.now n → result ≡ in_range (billionths n) }
     ensures not_number { (result ≡ Err DecimalRefusal.NotNumber) ↔ ¬ ((n : Number) × Spells text.now n) }
 {
-    let Some(parts) = parts_of(text.as_bytes()) else {
+    read_bytes(text.as_bytes())
+}
+
+fn read_bytes(text: &[u8]) -> Result<i64, DecimalRefusal>
+    ensures { result ≡ reading text.now }
+{
+    let Some(parts) = parts_of(text) else {
         return Err(DecimalRefusal::NotNumber);
     };
     match signed(parts.is_negative(), parts.magnitude()) {
