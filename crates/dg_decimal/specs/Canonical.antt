@@ -4,10 +4,10 @@ use Rattle.std.specs.Fmt.{decimal}
 use Rattle.dg_decimal.specs.Form.{minus, point}
 use Rattle.dg_decimal.specs.Value.{billion}
 
--- the last so many digits of a number, with zeros in front where it has fewer
-abbrev pub last_digits : ℕ → ℕ → List ℕ
-last_digits zero number = []
-last_digits (suc count) number = last_digits count (number / 10) ++ (48 + number % 10) ∷ []
+-- so many digits of a number that has no more, with zeros in front where it has fewer
+abbrev pub padded_digits : ℕ → ℕ → List ℕ
+padded_digits zero number = []
+padded_digits (suc count) number = (48 + number / 10 ^ count) ∷ padded_digits count (number % 10 ^ count)
 
 -- a digit put before others, where a zero with nothing behind it is left out
 abbrev pub before_trimmed : ℕ → List ℕ → List ℕ
@@ -20,8 +20,8 @@ without_zeros [] = []
 without_zeros (digit ∷ digits) = before_trimmed digit (without_zeros digits)
 
 -- the digits of the rest below one, at most nine
-abbrev pub fraction_digits : ℕ → List ℕ
-fraction_digits rest = without_zeros (last_digits 9 rest)
+unfoldable pub fraction_digits : ℕ → List ℕ
+fraction_digits rest = without_zeros (padded_digits 9 rest)
 
 -- the point and the digits behind it, where the rest is not 0
 abbrev pub fraction_text : ℕ → List ℕ

@@ -1,7 +1,7 @@
 //! Printing a value, and reading it back.
-ghost use Rattle.std.specs.Prelude.{◌≡◌, ◌+◌, ◌^◌, ◌≤◌, ◌<◌, ◌++◌, length, Ok};
+ghost use Rattle.std.specs.Prelude.{◌≡◌, ◌+◌, ◌^◌, ◌≤◌, ◌<◌, [], ◌∷◌, ◌++◌, length, Ok};
 ghost use Rattle.arrayvec.specs.ArrayString.{array_string_len};
-ghost use Rattle.dg_decimal.specs.Canonical.{canonical, fraction_text};
+ghost use Rattle.dg_decimal.specs.Canonical.{canonical, magnitude_text, fraction_text, fraction_digits};
 ghost use Rattle.dg_decimal.specs.Reading.{reading};
 
 use arrayvec::ArrayString;
@@ -46,28 +46,52 @@ pub fn print(value: i64) -> DecimalText
     if value < 0 {
         text.push('-');
     }
-    let magnitude = value.unsigned_abs();
-    text.push_str(Buffer::new().format(magnitude / BILLION));
-    push_fraction(&mut text, magnitude % BILLION);
+    push_magnitude(&mut text, value.unsigned_abs());
     DecimalText { text }
 }
 
+fn push_magnitude(text: &mut ArrayString<ROOM>, magnitude: u64)
+    requires small { magnitude ≤ 2 ^ 63 }
+    requires room { array_string_len text.old ≤ 1 }
+    ensures { text.new.bytes ≡ text.old.bytes ++ magnitude_text magnitude }
+{
+    text.push_str(Buffer::new().format(magnitude / BILLION));
+    push_fraction(text, magnitude % BILLION);
+}
+
 fn push_fraction(text: &mut ArrayString<ROOM>, rest: u64)
-    requires rest { rest < 10 ^ 9 }
+    requires below_one { rest < 10 ^ 9 }
     requires room { array_string_len text.old + 10 ≤ 21 }
     ensures { text.new.bytes ≡ text.old.bytes ++ fraction_text rest }
 {
-    if rest == 0 {
-        return;
+    if rest > 0 {
+        text.push('.');
+        push_digits(text, rest);
     }
-    text.push('.');
+}
+
+// The digits of a rest below one, up to the last that is not 0.
+fn push_digits(text: &mut ArrayString<ROOM>, rest: u64)
+    requires below_one { rest < 10 ^ 9 }
+    requires room { array_string_len text.old + 9 ≤ 21 }
+    ensures { text.new.bytes ≡ text.old.bytes ++ fraction_digits rest }
+{
     let mut left = rest;
-    let mut unit = BILLION;
+    let mut places: u32 = 9;
     while left > 0 {
-        unit /= 10;
-        text.push(char::from(b'0' + (left / unit) as u8));
+        places -= 1;
+        let unit = 10u64.pow(places);
+        push_digit(text, (left / unit) as u8);
         left %= unit;
     }
+}
+
+fn push_digit(text: &mut ArrayString<ROOM>, digit: u8)
+    requires digit { digit < 10 }
+    requires room { array_string_len text.old < 21 }
+    ensures { text.new.bytes ≡ text.old.bytes ++ (48 + digit) ∷ [] }
+{
+    text.push(char::from(b'0' + digit));
 }
 
 /// What is printed reads back as the value.
