@@ -1,1 +1,5 @@
 pub mod Form
+pub mod Text
+pub mod Play
+pub mod Out
+pub mod Printed

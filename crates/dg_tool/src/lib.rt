@@ -3,7 +3,9 @@
 
 mod command;
 mod form;
+mod printing;
 mod reading;
+mod words;
 
 
 pub use command::{Command, Name};
