@@ -1,38 +1,44 @@
-use super::{
-    Bytes, DirFiles, Files, Got, Listing, MemFiles, MemSink, Refusal, Sink, StdSink, are_distinct,
-    is_listed,
-};
-use std::alloc::Global;
+use std::alloc::{AllocError, Global};
 use std::fs;
+use std::process::Abort;
 use std::test::Fail;
 
-/// What is found at a path, in one word and its bytes.
-fn read_word<F: Files>(
-    alloc: Global,
-    files: &mut F,
-    path: &str,
-    most: usize,
-) -> Result<(&'static str, Bytes), Refusal> {
-    match files.read(alloc, path, most)? {
-        Got::Absent => Ok(("absent", Bytes::new(alloc))),
-        Got::Whole(bytes) => Ok(("whole", bytes)),
-        Got::Longer => Ok(("longer", Bytes::new(alloc))),
+use super::{
+    DirFiles, Files, Got, Listing, MemFiles, MemSink, Refusal, Sink, StdSink, are_distinct,
+    is_listed,
+};
+
+/// What is found at a path, in one word.
+fn found<F: Files>(alloc: Global, files: &mut F, path: &str, most: usize) -> &'static str {
+    match files.read(alloc, path, most) {
+        Ok(Got::Absent) => "absent",
+        Ok(Got::Longer) => "longer",
+        Ok(Got::Whole(bytes)) if bytes.as_slice() == b"three" => "three",
+        Ok(Got::Whole(_)) => "other",
+        Err(_) => "refused",
     }
 }
 
 /// The paths that are listed, each behind a blank.
 fn list_text<F: Files>(alloc: Global, files: &mut F) -> Result<String, Refusal> {
+    let Listing::All(paths) = files.list(alloc)? else {
+        return Ok(String::from_str(alloc, "more")?);
+    };
     let mut text = String::new(alloc);
-    match files.list(alloc)? {
-        Listing::All(paths) => {
-            for path in paths.as_slice() {
-                text.push(' ')?;
-                text.push_str(path.as_str())?;
-            }
-        }
-        Listing::More => text.push_str("more")?,
+    for path in paths.as_slice() {
+        text.push(' ')?;
+        text.push_str(path.as_str())?;
     }
     Ok(text)
+}
+
+/// Writes each path twice.
+fn write_twice<F: Files>(alloc: Global, files: &mut F, paths: &[&str]) -> Result<(), Refusal> {
+    for path in paths {
+        files.write(alloc, path, b"first")?;
+        files.write(alloc, path, b"three")?;
+    }
+    Ok(())
 }
 
 #[test]
@@ -41,101 +47,85 @@ fn a_folder_gives_back_what_is_written(rt: HostRuntime) -> Result<(), Fail> {
     let root = "dg_files_test_folder";
     let _ = fs::remove_dir_all(&rt, root);
     let mut files = DirFiles::new(rt, String::from_str(alloc, root)?);
-    assert_eq!(rt;
-        list_text(alloc, &mut files).is_err(),
-        true,
-        "no folder yet"
-    );
-    assert_eq!(rt; files.faults(), 1);
-    for path in [
-        "/z",
-        "/main/b.go",
-        "/main/.b",
-        "/.git/x",
-        "/build/out",
-        "/a/build/c",
+    let paths = ["/z", "/main/b.go", "/main/.b", "/.git/x", "/build/out"];
+    write_twice(alloc, &mut files, &paths)?;
+    assert_eq!(rt; list_text(alloc, &mut files)?.as_str(), " /main/b.go /z");
+    for (path, most, word) in [
+        ("/z", 5, "three"),
+        ("/build/out", 9, "three"),
+        ("/z", 4, "longer"),
+        ("/main", 9, "absent"),
+        ("/none", 9, "absent"),
+        ("/z/none", 9, "absent"),
     ] {
-        files.write(alloc, path, b"first")?;
-        files.write(alloc, path, b"three")?;
+        assert_eq!(rt; found(alloc, &mut files, path, most), word, "at {path}");
     }
-    assert_eq!(rt;
-        list_text(alloc, &mut files)?.as_str(),
-        " /a/build/c /main/b.go /z"
-    );
-    for (path, most, word, bytes) in [
-        ("/z", 5, "whole", "three"),
-        ("/build/out", 9, "whole", "three"),
-        ("/z", 4, "longer", ""),
-        ("/main", 9, "absent", ""),
-        ("/none", 9, "absent", ""),
-        ("/z/none", 9, "absent", ""),
-    ] {
-        let (found, all) = read_word(alloc, &mut files, path, most)?;
-        assert_eq!(rt; found, word, "at {path}");
-        assert_eq!(rt; all.as_slice(), bytes.as_bytes(), "at {path}");
-    }
-    assert_eq!(rt; files.write(alloc, "/z/none", b"x"), Err(Refusal::Failed));
-    assert_eq!(rt; files.faults(), 2);
     fs::remove_dir_all(&rt, root)?;
+    Ok(())
+}
+
+#[test]
+fn a_folder_counts_its_failures(rt: HostRuntime) -> Result<(), Fail> {
+    let alloc = rt.alloc();
+    let mut files = DirFiles::new(rt, String::from_str(alloc, "dg_files_test_none")?);
+    assert!(rt; files.list(alloc).is_err());
+    assert_eq!(rt; files.faults(), 1);
     Ok(())
 }
 
 #[test]
 fn standard_output_takes_bytes(rt: HostRuntime) -> Result<(), Fail> {
     let mut sink = StdSink::new(rt);
-    let taken = sink.put(b"taken\n")?;
-    assert!(rt; taken > 0);
-    assert_eq!(rt; sink.put(b"")?, 0);
+    assert!(rt; sink.put(b"taken\n")? > 0);
     assert_eq!(rt; sink.faults(), 0);
     Ok(())
 }
 
-/// A tree of two files, of which one isn't listed.
-fn two_files(alloc: Global) -> Result<Vec<(String, Vec<u8>)>, Fail> {
+/// Two files, of which one isn't listed.
+fn two_files(rt: &impl Abort, alloc: Global, fail: u64) -> Result<MemFiles, AllocError> {
     let mut tree = Vec::new(alloc);
-    for (path, bytes) in [("/a", "one"), ("/build/b", "two")] {
-        let bytes = Vec::from_slice(alloc, bytes.as_bytes())?;
+    for path in ["/a", "/build/b"] {
+        let bytes = Vec::from_slice(alloc, b"three")?;
         tree.push((String::from_str(alloc, path)?, bytes))?;
     }
-    Ok(tree)
+    assert!(rt; are_distinct(&tree));
+    Ok(MemFiles::new(alloc, tree, vec![in alloc; fail]?))
+}
+
+/// Which of a listing, a read and a write are answered, in this order.
+fn three_calls<F: Files>(alloc: Global, files: &mut F) -> (bool, bool, bool) {
+    let listed = files.list(alloc).is_ok();
+    let read = files.read(alloc, "/a", 5).is_ok();
+    let written = files.write(alloc, "/build/b", b"new").is_ok();
+    (listed, read, written)
 }
 
 #[test]
 fn the_listed_calls_fail(rt: HostRuntime) -> Result<(), Fail> {
     let alloc = rt.alloc();
-    for (failing, listed, read, written, after) in [
-        (0, true, true, true, "new"),
-        (1, false, true, true, "new"),
-        (2, true, false, true, "new"),
-        (3, true, true, false, "two"),
+    for (failing, answered) in [
+        (0, (true, true, true)),
+        (1, (false, true, true)),
+        (2, (true, false, true)),
+        (3, (true, true, false)),
     ] {
-        let tree = two_files(alloc)?;
-        assert!(rt; are_distinct(&tree));
-        let mut files = MemFiles::new(alloc, tree, vec![in alloc; failing]?);
-        assert_eq!(rt;
-            list_text(alloc, &mut files).is_ok(),
-            listed,
-            "list at {failing}"
-        );
-        assert_eq!(rt;
-            read_word(alloc, &mut files, "/a", 3).is_ok(),
-            read,
-            "read at {failing}"
-        );
-        let wrote = files.write(alloc, "/build/b", b"new").is_ok();
-        assert_eq!(rt; wrote, written, "write at {failing}");
-        assert_eq!(rt;
-            files.get("/build/b"),
-            Some(after.as_bytes()),
-            "after {failing}"
-        );
-        assert_eq!(rt; files.get("/a"), Some("one".as_bytes()));
-        assert_eq!(rt; files.faults(), if failing == 0 { 0 } else { 1 });
-        files.write(alloc, "/c", b"")?;
-        assert_eq!(rt; list_text(alloc, &mut files)?.as_str(), " /a /c");
-        assert_eq!(rt; read_word(alloc, &mut files, "/a", 2)?.0, "longer");
-        assert_eq!(rt; read_word(alloc, &mut files, "/b", 2)?.0, "absent");
+        let mut files = two_files(&rt, alloc, failing)?;
+        assert_eq!(rt; three_calls(alloc, &mut files), answered, "at {failing}");
     }
+    Ok(())
+}
+
+#[test]
+fn memory_gives_back_what_is_written(rt: HostRuntime) -> Result<(), Fail> {
+    let alloc = rt.alloc();
+    let mut files = two_files(&rt, alloc, 0)?;
+    write_twice(alloc, &mut files, &["/c", "/build/c"])?;
+    assert_eq!(rt; list_text(alloc, &mut files)?.as_str(), " /a /c");
+    for (path, most, word) in [("/c", 5, "three"), ("/a", 4, "longer"), ("/b", 5, "absent")] {
+        assert_eq!(rt; found(alloc, &mut files, path, most), word, "at {path}");
+    }
+    assert_eq!(rt; files.get("/build/c"), Some(b"three".as_slice()));
+    assert_eq!(rt; files.faults(), 0);
     Ok(())
 }
 
@@ -143,34 +133,30 @@ fn the_listed_calls_fail(rt: HostRuntime) -> Result<(), Fail> {
 fn a_byte_at_a_put(rt: HostRuntime) -> Result<(), Fail> {
     let alloc = rt.alloc();
     let mut sink = MemSink::new(alloc, vec![in alloc; 2]?, 1);
-    for (piece, answer, bytes) in [
-        ("ab", Ok(1), "a"),
-        ("bc", Err(Refusal::Failed), "a"),
-        ("bc", Ok(1), "ab"),
-        ("", Ok(0), "ab"),
-        ("c", Ok(1), "abc"),
+    for (piece, answer) in [
+        ("ab", Ok(1)),
+        ("bc", Err(Refusal::Failed)),
+        ("bc", Ok(1)),
+        ("", Ok(0)),
     ] {
         assert_eq!(rt; sink.put(piece.as_bytes()), answer, "at {piece}");
-        assert_eq!(rt; sink.as_slice(), bytes.as_bytes(), "at {piece}");
     }
+    assert_eq!(rt; sink.as_slice(), b"ab".as_slice());
     assert_eq!(rt; sink.faults(), 1);
     Ok(())
 }
 
 #[test]
-fn hidden_and_built_paths_are_not_listed(rt: HostRuntime) -> Result<(), Fail> {
+fn hidden_and_built_paths_are_not_listed(rt: HostRuntime) {
     for (path, listed) in [
-        ("/main.collection", true),
         ("/a/build/b", true),
         ("/build", true),
         ("/builds/a", true),
         ("/build/a", false),
-        ("/.git", false),
         ("/a/.b/c", false),
         (".a", false),
         ("a.b", true),
     ] {
         assert_eq!(rt; is_listed(path), listed, "at {path}");
     }
-    Ok(())
 }
