@@ -11,6 +11,7 @@ ghost use Rattle.dg_flat.specs.Numbered.{IsNumbered};
 
 use crate::fields::{put, value_in};
 use dg_base::{ArcRec, Datum, Endpoint, Fields, Kind, Label, Node, NodeId, Origin, Schema};
+use sqlite_items::at;
 use std::alloc::{AllocError, Global};
 use std::marker::{Model, PhantomData};
 
@@ -141,10 +142,12 @@ impl<S: Schema> Graph<S> {
 
     // The node with an id, which stands at the place before it.
     fn node(&self, node: NodeId) -> Option<&Node>
-        ensures { option_copied result ≡ node_at self.now node }
+        ensures node { option_copied result ≡ node_at self.now node }
+        ensures numbered { IsNumbered self.now }
     {
+        let nodes = &self.nodes;
         let place = (node.0 as usize).checked_sub(1)?;
-        self.nodes.get(place)
+        at(nodes, place)
     }
 }
 

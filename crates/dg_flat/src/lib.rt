@@ -2,7 +2,7 @@
 //! faster form of the graph is measured against. Contracts see a graph as these lists.
 //!
 //! The layer above may use `Graph` and the lemmas of `proofs/`: `Numbered` says how a graph reads in
-//! which nothing was deleted or overridden, `Reads` how it reads after a change. Want of memory is
+//! which nothing was deleted or overridden, `AfterChanges` how it reads after one. Want of memory is
 //! std's `AllocError`, and leaves a graph as it was.
 #![tactic(auto)]
 
