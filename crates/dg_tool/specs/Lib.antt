@@ -3,3 +3,4 @@ pub mod Text
 pub mod Play
 pub mod Out
 pub mod Printed
+pub mod FirstLaws

@@ -9,3 +9,4 @@ mod words;
 
 
 pub use command::{Command, Name};
+mod first;

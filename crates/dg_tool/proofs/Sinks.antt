@@ -1,0 +1,65 @@
+-- What a sink has got, piece by piece.
+use Rattle.std.proofs.Common.{◌≡◌, ℕ, suc, ◌+◌, ◌-◌, ◌<◌, ◌≤◌, List, [], ◌∷◌, ◌++◌, length, take, drop, get_or, min, Option, Some, None, refl, sym, ap, ◌∙◌, arith, append_assoc, le_of_eq}
+use Rattle.std.proofs.Math.Seq.{take-add, take-append-add, drop-cons}
+use Rattle.std.proofs.lemmas.List.{take-append-drop, take-append-le, take_min, append-nil, take_all, length-drop}
+use Rattle.std.proofs.lemmas.Grind.{take_at_read}
+use Rattle.std.specs.Prelude.{Result, Ok, Err, OnErr}
+use Rattle.std.specs.Option.{option_map}
+use Rattle.dg_tool.specs.Out.{text_of}
+use Rattle.dg_tool.specs.Printed.{GotAll, GotPrefix}
+
+-- one text behind another
+pub GotAll-append : (before between after : Option (List ℕ)) (xs ys : List ℕ) →
+    GotAll before between xs → GotAll between after ys → GotAll before after (xs ++ ys)
+GotAll-append None between after xs ys e f = f ∙ ap (option_map (λ bs. bs ++ ys)) e
+GotAll-append (Some b) between after xs ys e f =
+    f ∙ ap (option_map (λ bs. bs ++ ys)) e ∙ ap Some (append_assoc b xs ys)
+
+pub text_of-append : (ls ms : List (List ℕ)) → text_of (ls ++ ms) ≡ text_of ls ++ text_of ms
+text_of-append [] ms = refl
+text_of-append (l ∷ ls) ms = ap (λ t. l ++ t) (text_of-append ls ms) ∙ sym (append_assoc l (text_of ls) (text_of ms))
+
+-- the lines before the i-th, the i-th, and the others
+pub text_of-split : (ls : List (List ℕ)) (i : ℕ) (line : List ℕ) → line ≡ get_or ls i line → i < length ls →
+    text_of ls ≡ text_of (take i ls) ++ (line ++ text_of (drop (i + 1) ls))
+text_of-split ls i line is lt =
+    let next : i + 1 ≡ suc i = omega arith in
+    let head : drop i ls ≡ line ∷ drop (i + 1) ls =
+        drop-cons ls i line lt ∙ ap (λ l. l ∷ drop (suc i) ls) (sym is) ∙ ap (λ k. line ∷ drop k ls) (sym next) in
+    ap text_of (sym (take-append-drop i ls) ∙ ap (λ ms. take i ls ++ ms) head) ∙ text_of-append (take i ls) (line ∷ drop (i + 1) ls)
+
+pub text_of-take : (ls : List (List ℕ)) (i : ℕ) (line : List ℕ) → line ≡ get_or ls i line → i < length ls →
+    text_of (take (i + 1) ls) ≡ text_of (take i ls) ++ line
+text_of-take ls i line is lt =
+    ap text_of ((take_at_read ls i line lt).1 ∙ ap (λ l. take i ls ++ l ∷ []) (sym is)) ∙ text_of-append (take i ls) (line ∷ [])
+    ∙ ap (λ t. text_of (take i ls) ++ t) (append-nil line)
+
+-- a first part of a line behind the lines before it is a first part of them all
+pub GotPrefix-line : (before between after : Option (List ℕ)) (ls : List (List ℕ)) (i : ℕ) (line : List ℕ) → line ≡ get_or ls i line →
+    i < length ls → GotAll before between (text_of (take i ls)) → GotPrefix between after line → GotPrefix before after (text_of ls)
+GotPrefix-line before between after ls i line is lt e p =
+    let m = min p.0 (length line) in
+    let front = text_of (take i ls) in
+    let rest = text_of (drop (i + 1) ls) in
+    let short : m ≤ length line = omega arith in
+    let part : take m (line ++ rest) ≡ take p.0 line = take-append-le m line rest short ∙ take_min p.0 line in
+    let whole : take (length front + m) (text_of ls) ≡ front ++ take p.0 line =
+        ap (take (length front + m)) (text_of-split ls i line is lt) ∙ take-append-add front (line ++ rest) m ∙ ap (λ t. front ++ t) part in
+    (length front + m, GotAll-append before between after front (take p.0 line) e p.1 ∙ ap (λ t. option_map (λ bs. bs ++ t) before) (sym whole))
+
+-- a slice from a place on is what is left there
+tail_of : (xs : List ℕ) (i : ℕ) → take (length xs - i) (drop i xs) ≡ drop i xs
+tail_of xs i = take_all (length xs - i) (drop i xs) (le_of_eq (length-drop i xs))
+
+pub put_step : (before between after : Option (List ℕ)) (xs : List ℕ) (i n : ℕ) → GotAll before between (take i xs) →
+    GotAll between after (take n (take (length xs - i) (drop i xs))) → GotAll before after (take (i + n) xs)
+put_step before between after xs i n e f =
+    GotAll-append before between after (take i xs) (take n (take (length xs - i) (drop i xs))) e f
+    ∙ ap (λ t. option_map (λ bs. bs ++ t) before) (ap (λ t. take i xs ++ take n t) (tail_of xs i) ∙ sym (take-add i n xs))
+
+pub put_within : (xs : List ℕ) (i n : ℕ) → n ≤ length (take (length xs - i) (drop i xs)) → i ≤ length xs → i + n ≤ length xs
+put_within xs i n le within = omega (arith, ap length (tail_of xs i), length-drop i xs)
+
+pub OnErr-always : {T E P : Type 0} (r : Result T E) → P → OnErr r P
+OnErr-always (Ok x) p = tt
+OnErr-always (Err e) p = p
