@@ -1,3 +1,6 @@
 pub mod Lines
 pub mod Numbers
 pub mod Sinks
+pub mod FirstForms
+pub mod Totals
+pub mod Turns

@@ -3,4 +3,5 @@ pub mod Text
 pub mod Play
 pub mod Out
 pub mod Printed
+pub mod FirstForm
 pub mod FirstLaws

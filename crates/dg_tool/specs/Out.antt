@@ -5,12 +5,9 @@ use Rattle.std.specs.List.{slice_split, list_all}
 use Rattle.std.specs.Cmp.Lexicographic.{pointwise}
 use Rattle.dg_files.specs.Tree.{Tree, bytes_at}
 use Rattle.dg_base.specs.Tables.{Tables}
+use Rattle.dg_tool.specs.declared.output.Out.{Out}
 use Rattle.dg_tool.specs.Form.{is_word}
 use Rattle.dg_tool.specs.Play.{lines_of_script}
-
-pub record Out : Type 0 where
-  pub status : ℕ
-  pub lines : List (List ℕ)
 
 -- a project path begins with a slash, and what stands behind each of its slashes, up to the next one
 -- or the end, is not empty, not one point and not two points
@@ -38,14 +35,17 @@ script_named _ = None
 abbrev pub error_line : List ℕ → List ℕ
 error_line what = codes "error: " ++ what ++ 10 ∷ []
 
+abbrev pub error_out : ℕ → List ℕ → Out
+error_out status what = record { status = status; lines = error_line what ∷ [] }
+
 abbrev pub usage : Out
-usage = record { status = 1; lines = error_line (codes "usage") ∷ [] }
+usage = error_out 1 (codes "usage")
 
 abbrev pub no_input : Out
-no_input = record { status = 2; lines = error_line (codes "no input") ∷ [] }
+no_input = error_out 2 (codes "no input")
 
 abbrev pub not_built : Out
-not_built = record { status = 3; lines = error_line (codes "not built") ∷ [] }
+not_built = error_out 3 (codes "not built")
 
 abbrev pub out_of_lines : Option (List (List ℕ)) → Out
 out_of_lines None = not_built

@@ -12,15 +12,11 @@ use Rattle.dg_base.specs.Chain.{kind_of}
 use Rattle.dg_base.specs.Value.{value_at}
 use Rattle.dg_base.specs.Apply.{Progress, make_step, set_step, connect_step}
 use Rattle.dg_base.specs.First.{num, sum_, value, terms, total}
+use Rattle.dg_tool.specs.declared.bound.Bound.{Bound}
 use Rattle.dg_tool.specs.declared.command.Command.{Command}
 use Rattle.dg_tool.specs.declared.command.Command.TheVariants.{Make, Set, Connect, Ask}
 use Rattle.dg_tool.specs.Form.{commands_of_script}
 use Rattle.dg_tool.specs.Text.{answer_text, refusal_text, line_of}
-
--- a name and the node that it stands for
-pub record Bound : Type 0 where
-  pub name : List ℕ
-  pub node : NodeId
 
 -- the graph, the id of the next node, and the names
 pub record State : Type 0 where
@@ -90,10 +86,13 @@ abbrev pub ask_turn : Tables → State → Option NodeId → Option Turn
 ask_turn t s None = None
 ask_turn t s (Some n) = Some (record { state = s; text = answer_text (value_at t s.graph (total_of n)) })
 
+abbrev pub make_turn : State → Kind → List ℕ → Option Turn
+make_turn s kind name = cond (is_some (bound_to s.bound name)) None (Some (named s name (make_step (begun s) kind)))
+
 -- a command's turn. A script is out of the form where it has none: a name is made twice, isn't made
 -- yet, or is a node of another kind than its place asks
 abbrev pub turn_of : Tables → State → Command → Option Turn
-turn_of t s (Make kind name) = cond (is_some (bound_to s.bound name)) None (Some (named s name (make_step (begun s) kind)))
+turn_of t s (Make kind name) = make_turn s kind name
 turn_of t s (Set name v) = set_turn t s (node_of s num name) v
 turn_of t s (Connect name sum) = connect_turn t s (node_of s num name) (node_of s sum_ sum)
 turn_of t s (Ask sum) = ask_turn t s (node_of s sum_ sum)

@@ -1,12 +1,18 @@
 //! The whole tool, as calls that a program makes.
 #![tactic(auto)]
 
+mod bound;
 mod command;
+mod first;
 mod form;
+mod output;
+mod play;
 mod printing;
 mod reading;
+mod text;
+mod total;
 mod words;
 
 
 pub use command::{Command, Name};
-mod first;
+
