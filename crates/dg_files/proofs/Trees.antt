@@ -1,10 +1,10 @@
 -- What is kept is what its tree says: a look-up, a write in place, a write of a new path, distinct paths.
-use Rattle.std.proofs.Common.{◌≡◌, ◌≢◌, ℕ, suc, ◌<◌, ◌≤◌, Bool, true, false, if◌then◌else◌, is_none, ◌&&◌, List, [], ◌∷◌, ◌++◌, length, Option, Some, None, slice_get, slice_set, slice_index_or, String, Vec, string_bytes, IsTrue, refl, sym, ◌∙◌, ap, subst, arith}
+use Rattle.std.proofs.Common.{◌≡◌, ◌≢◌, ℕ, suc, ◌<◌, ◌≤◌, Bool, true, false, if◌then◌else◌, is_none, List, [], ◌∷◌, ◌++◌, length, Some, None, slice_get, slice_set, slice_index_or, String, Vec, string_bytes, refl, sym, ◌∙◌, ap, subst, arith}
 use Rattle.std.proofs.lemmas.Bool.{and_parts}
 use Rattle.std.specs.Option.{option_map}
 use Rattle.std.specs.declared.alloc.Global.{Global}
 use Rattle.std.specs.Cmp.Lexicographic.{bytes_decides}
-use Rattle.dg_files.specs.Tree.{Tree, File, is_same, bytes_at, written, are_distinct}
+use Rattle.dg_files.specs.Tree.{Tree, is_same, bytes_at, written, are_distinct}
 use Rattle.dg_files.specs.Kept.{Entry, tree_of, place_in}
 
 pub bytes_at-tree_of : (files : List Entry) (path : List ℕ) →

@@ -1,19 +1,18 @@
-use std::alloc::{AllocError, Global};
-use std::fs;
-use std::process::Abort;
-use std::test::Fail;
-
 use super::{
     DirFiles, Files, Got, Listing, MemFiles, MemSink, Refusal, Sink, StdSink, are_distinct,
     is_listed,
 };
+use std::alloc::{AllocError, Global};
+use std::fs;
+use std::process::Abort;
+use std::test::Fail;
 
 /// What is found at a path, in one word.
 fn found<F: Files>(alloc: Global, files: &mut F, path: &str, most: usize) -> &'static str {
     match files.read(alloc, path, most) {
         Ok(Got::Absent) => "absent",
         Ok(Got::Longer) => "longer",
-        Ok(Got::Whole(bytes)) if bytes.as_slice() == b"three" => "three",
+        Ok(Got::Whole(bytes)) if bytes.as_slice() == b"three".as_slice() => "three",
         Ok(Got::Whole(_)) => "other",
         Err(_) => "refused",
     }

@@ -1,4 +1,4 @@
-use Rattle.std.proofs.Common.{◌≡◌, ◌∙◌, Some, slice_get, ap, sym}
+use Rattle.std.proofs.Common.{◌∙◌, Some, slice_get, ap, sym}
 use Rattle.std.specs.Option.{option_map}
 use Rattle.dg_files.specs.Kept.{Entry}
 use Rattle.dg_files.proofs.Trees.{bytes_at-tree_of}

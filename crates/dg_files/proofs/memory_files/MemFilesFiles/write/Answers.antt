@@ -1,4 +1,4 @@
-use Rattle.std.proofs.Common.{◌≡◌, true, ◌∙◌, ap}
+use Rattle.std.proofs.Common.{◌∙◌, ap}
 use Rattle.dg_files.specs.Tree.{are_distinct}
 use Rattle.dg_files.specs.Kept.{tree_of}
 use Rattle.dg_files.proofs.Trees.{are_distinct-written}
