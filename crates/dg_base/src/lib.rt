@@ -16,6 +16,8 @@ mod rule;
 mod schema;
 mod step;
 mod steps;
+#[cfg(test)]
+mod tests;
 mod text;
 pub mod worked;
 

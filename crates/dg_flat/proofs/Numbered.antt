@@ -157,3 +157,16 @@ set_own xs arcs g n l v i x own h e found is put =
     ap (λ (z : List FieldOf). record { nodes = set xs i (record x { own = z }); arcs = arcs }) put
     ∙ ap (λ (z : List Node). record { nodes = z; arcs = arcs }) (sym (map-valued xs 1 i n l v x h e found))
     ∙ ap (λ (z : Graph). with_value z n l v) is
+
+is_some-kind_by : (o : Origin) → IsPlain o → is_some (kind_by o None) ≡ true
+is_some-kind_by (origin.Plain kind) h = refl
+is_some-kind_by (origin.Over root original) h = absurd h
+
+is_some-own_kind : (o : Option Node) → IfSome o (λ x. IsPlain x.origin) → is_some (own_kind o) ≡ is_some o
+is_some-own_kind None h = refl
+is_some-own_kind (Some x) h = is_some-kind_by x.origin h
+
+-- a node is there just where it has a kind
+pub is_some-kind_of : (g : Graph) (n : NodeId) → IsNumbered g → is_some (kind_of g n) ≡ has_node g n
+is_some-kind_of g n h =
+    ap is_some (kind_of-numbered g n h) ∙ is_some-own_kind (node_at g n) (find-plain (λ z. same_node z.id n) g.nodes 1 h.nodes)

@@ -2,3 +2,4 @@
 pub mod Code
 pub mod Numbered
 pub mod Places
+pub mod Bare

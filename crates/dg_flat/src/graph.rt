@@ -83,8 +83,8 @@ impl<S: Schema> Graph<S> {
         value_in(self.node(node)?.own.as_slice(), label)
     }
 
-    /// The sources of an input, in the order in which they were connected. In time linear in the
-    /// arcs.
+    /// The sources of an input, in the order in which they were connected; none where the graph has
+    /// no nodes. In time linear in the arcs.
     pub fn sources(&self, node: NodeId, input: Label) -> Result<Vec<Endpoint>, AllocError>
         ensures { IfOk result (λ v. v.items ≡ sources self.now node input) }
     {

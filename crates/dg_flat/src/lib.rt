@@ -8,5 +8,7 @@
 
 mod fields;
 mod graph;
+#[cfg(test)]
+mod tests;
 
 pub use graph::Graph;
