@@ -27,12 +27,12 @@ sign_text negative = if negative then minus ∷ [] else []
 
 abbrev number_of : Bool → ℕ → Number
 number_of negative magnitude = record {
-      negative = negative;
-      whole = decimal (magnitude / billion);
-      fraction = digits_of_rest (magnitude % billion);
-      exponent_negative = false;
-      exponent = [];
-    }
+  negative = negative;
+  whole = decimal (magnitude / billion);
+  fraction = digits_of_rest (magnitude % billion);
+  exponent_negative = false;
+  exponent = [];
+}
 
 sign_is : (negative : Bool) → IsSign negative (sign_text negative)
 sign_is true = refl
@@ -108,7 +108,7 @@ value_back negative magnitude small =
     let ds = digits_of_rest (magnitude % billion) in
     ap (λ (n : ℕ). nearest (digits_value 10 (decimal (magnitude / billion) ++ ds) * 10 ^ 9) (10 ^ n)) (add-zero (length ds))
     ∙ (whole_and_rest (magnitude / billion) (magnitude % billion) fraction.zeros_left (decimal (magnitude / billion)) ds
-      whole.1 fraction.places fraction.value
+    whole.1 fraction.places fraction.value
     ∙ div-add-mod' magnitude billion)
 
 pub reading-canonical : (value : ℤ) → FitsSigned w64 value → reading (canonical value) ≡ Ok value

@@ -22,6 +22,6 @@ returns-else-not-are_digits c =
     let some : nat_lt 0 (length c.split_sign-negative.result.1.now) ≡ true = search rules in
     let letter : (slice_index text 0 == small_e || slice_index text 0 == capital_e) ≡ true = search rules in
     let is : is_exponent_or_empty c.args.text.now ≡ true =
-      passes (length text == 0) (slice_index text 0 == small_e || slice_index text 0 == capital_e) (nat_lt 0 (length (after_sign (drop 1 text))))
-        (list_all is_ascii_digit (after_sign (drop 1 text))) letter (rw rest at some) (rw rest at digits) in
+    passes (length text == 0) (slice_index text 0 == small_e || slice_index text 0 == capital_e) (nat_lt 0 (length (after_sign (drop 1 text))))
+    (list_all is_ascii_digit (after_sign (drop 1 text))) letter (rw rest at some) (rw rest at digits) in
     (is, negative, rest, from_list_all c.split_sign-negative.result.1.now digits)

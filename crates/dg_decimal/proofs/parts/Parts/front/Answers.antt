@@ -21,4 +21,4 @@ halves count whole value all ws fs w v a = rw a (rw v (rw w (value_front CAP cou
 pub returns : goal.returns
 returns c =
     rw (← c.self.view_is) (halves c.args.count c.min-whole.result c.grown-value.result c.grown.result c.self.inside.whole.now c.self.inside.fraction.now
-      c.min-whole.ensures c.grown-value.ensures c.grown.ensures)
+    c.min-whole.ensures c.grown-value.ensures c.grown.ensures)

@@ -26,11 +26,11 @@ returns-then-self c =
     let p = c.self.inside in
     let e = rw (← c.self.view_is) at c.scaled.ensures in
     rw (← c.self.view_is, c.if-self.true) (lowered p.whole.now p.fraction.now p.exponent.now c.grown-exponent.result c.scaled.result
-      (AllDigits-append p.whole.now p.fraction.now c.self.invariant.0 c.self.invariant.1) (omega arith) c.grown-exponent.ensures e)
+    (AllDigits-append p.whole.now p.fraction.now c.self.invariant.0 c.self.invariant.1) (omega arith) c.grown-exponent.ensures e)
 
 pub returns-else-self : goal.returns-else-self
 returns-else-self c =
     let p = c.self.inside in
     let e = rw (← c.self.view_is) at c.scaled-else-self.ensures in
     rw (← c.self.view_is, c.if-self.false) (raised p.whole.now p.fraction.now p.exponent.now c.grown-exponent.result c.scaled-else-self.result
-      (omega arith) c.grown-exponent.ensures e)
+    (omega arith) c.grown-exponent.ensures e)

@@ -17,5 +17,5 @@ returns c =
     let ds = c.args.self.now.whole ++ c.args.self.now.fraction in
     let whole = take_all c.len.result ds (omega (arith, length-append c.args.self.now.whole c.args.self.now.fraction, c.len.ensures.len)) in
     product (digits_value 10 ds) c.args.tens c.front.result c.pow-power.result c.min-2.result
-      (c.front.ensures ∙ ap (λ (xs : List ℕ). min (digits_value 10 xs) CAP) whole)
-      (c.pow-power.ensures ∙ ap (λ (k : ℕ). 10 ^ k) c.min.ensures) c.min-2.ensures
+    (c.front.ensures ∙ ap (λ (xs : List ℕ). min (digits_value 10 xs) CAP) whole)
+    (c.pow-power.ensures ∙ ap (λ (k : ℕ). 10 ^ k) c.min.ensures) c.min-2.ensures
