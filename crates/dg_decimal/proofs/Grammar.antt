@@ -1,12 +1,11 @@
 -- The productions and the function that takes a text apart agree.
-use Rattle.std.proofs.Common.{◌≡◌, ◌≢◌, ◌⊎◌, ℕ, ◌+◌, ◌≤◌, ◌<◌, Bool, true, false, ◌&&◌, ◌||◌, cond, List, [], ◌∷◌, ◌++◌, length, take, drop, get_or, Option, Some, None, refl, sym, ◌∙◌, ap, subst, inl, inr, ⊎_elim, arith, rules, take-append-drop, append-nil}
-use Rattle.std.proofs.lemmas.Bool.{ne_eqb, eqb-true, lt-ltb, ltb-true, le-ltb, and_from, and_parts, or_left, or_right, or_cases, cond-true, cond-false, cond_both, cases_Bool}
-use Rattle.std.proofs.lemmas.List.{take_at, drop_at, nil_from_length}
+use Rattle.std.proofs.Common.{◌≡◌, ◌≢◌, ◌⊎◌, ℕ, ◌+◌, ◌≤◌, ◌<◌, Bool, true, false, ◌&&◌, ◌||◌, List, [], ◌∷◌, ◌++◌, length, take, drop, get_or, Option, Some, None, refl, sym, ◌∙◌, ap, subst, inl, inr, ⊎_elim, arith, take-append-drop, append-nil}
+use Rattle.std.proofs.lemmas.Bool.{ne_eqb, eqb-true, lt-ltb, ltb-true, and_from, and_parts, or_right, or_cases, cond-true, cond-false, cond_both, cases_Bool}
+use Rattle.std.proofs.lemmas.List.{take_at, drop_at}
 use Rattle.std.proofs.lemmas.Str.Parse.{digit_from_value}
 use Rattle.std.specs.Char.{digit_value, is_ascii_digit}
-use Rattle.std.specs.Int.{IsInRange}
-use Rattle.std.specs.List.{list_all, prefix_len, take_while}
-use Rattle.std.specs.Prelude.{◌==◌, nat_lt, slice_index}
+use Rattle.std.specs.List.{list_all, prefix_len}
+use Rattle.std.specs.Prelude.{◌==◌, nat_lt}
 use Rattle.std.specs.Str.Parse.{AllDigits}
 use Rattle.dg_decimal.specs.Form.{Number, IsSign, IsFraction, IsPower, IsExponent, Spells, point, plus, minus, small_e, capital_e}
 use Rattle.dg_decimal.specs.Reading.{begins_negative, after_sign, digits_in, after_digits, begins_with_point, fraction_in, after_fraction, is_exponent, is_exponent_or_empty, whole_in, after_whole, parts_in, is_number, number_in}

@@ -1,18 +1,18 @@
 -- The canonical text of a value spells a number whose value it is.
-use Rattle.std.proofs.Common.{◌≡◌, ℕ, suc, ◌+◌, ◌-◌, ◌*◌, ◌/◌, ◌%◌, ◌^◌, ◌≤◌, ◌<◌, Bool, true, false, cond, List, [], ◌∷◌, ◌++◌, length, Ok, Err, refl, sym, ◌∙◌, ap, inl, inr, ⊎_elim, arith, append-nil, length-append, add-one}
-use Rattle.std.proofs.Math.Nat.{mod-lt, div-add-mod', add-zero}
-use Rattle.std.proofs.lemmas.Bool.{cases_Bool, cond_both, lt-ltb, cond-true, eqb-true}
+use Rattle.std.proofs.Common.{◌≡◌, ℕ, ◌+◌, ◌-◌, ◌*◌, ◌/◌, ◌%◌, ◌^◌, ◌<◌, Bool, true, false, List, [], ◌∷◌, ◌++◌, length, Ok, Err, refl, sym, ◌∙◌, ap, inl, inr, ⊎_elim, arith, append-nil, add-one}
+use Rattle.std.proofs.Math.Nat.{div-add-mod', add-zero}
+use Rattle.std.proofs.lemmas.Bool.{cases_Bool, lt-ltb, cond-true, eqb-true}
 use Rattle.std.proofs.lemmas.Fmt.{decimal_is_IsNumeral}
 use Rattle.std.proofs.lemmas.Nat.{pow-add}
 use Rattle.std.specs.Fmt.{decimal}
 use Rattle.std.specs.Int.{w64}
 use Rattle.std.specs.Prelude.{ℤ, pos, negsuc, neg_ℤ, FitsSigned, ◌==◌, if◌then◌else◌}
-use Rattle.std.specs.Str.Parse.{AllDigits, digits_value, digits_value_after}
+use Rattle.std.specs.Str.Parse.{AllDigits, digits_value}
 use Rattle.dg_decimal.specs.declared.refusal.DecimalRefusal.TheVariants.{Range}
 use Rattle.dg_decimal.specs.Form.{Number, Spells, IsSign, IsFraction, minus}
-use Rattle.dg_decimal.specs.Value.{billion, nearest, numerator, denominator, billionths, fits}
+use Rattle.dg_decimal.specs.Value.{billion, nearest, numerator, denominator, fits}
 use Rattle.dg_decimal.specs.Reading.{reading, in_range}
-use Rattle.dg_decimal.specs.Canonical.{canonical, magnitude_text, fraction_text, fraction_digits, without_zeros, padded_digits}
+use Rattle.dg_decimal.specs.Canonical.{canonical, magnitude_text, fraction_text, fraction_digits, padded_digits}
 use Rattle.dg_decimal.proofs.Digits.{value-append, value_after}
 use Rattle.dg_decimal.proofs.Rounding.{nearest_raised}
 use Rattle.dg_decimal.proofs.Trimmed.{zeros, AllDigits-without_zeros, AllDigits-padded, digits_value-padded, length-padded}

@@ -1,12 +1,12 @@
 -- The nearest whole number to a quotient.
-use Rattle.std.proofs.Common.{◌≡◌, ℕ, ◌+◌, ◌-◌, ◌*◌, ◌/◌, ◌^◌, ◌≤◌, ◌<◌, min, refl, sym, ◌∙◌, ap, arith}
+use Rattle.std.proofs.Common.{◌≡◌, ℕ, ◌+◌, ◌-◌, ◌*◌, ◌^◌, ◌≤◌, ◌<◌, min, refl, sym, ◌∙◌, ap, arith}
 use Rattle.std.proofs.Math.Nat.{mul_assoc, mul-div-mul_right, div-eq_of_lt-le, div-eq_of_lt, mul-le-mul_right}
 use Rattle.std.proofs.lemmas.Nat.{pow-add}
-use Rattle.std.proofs.Common.{List, ◌++◌, length, take, drop, get_or, ⊎_elim, length-append, length-drop, rules}
+use Rattle.std.proofs.Common.{List, ◌++◌, length, take, drop, get_or, ⊎_elim, length-append, length-drop}
 use Rattle.std.proofs.lemmas.Str.Parse.{digit_at}
 use Rattle.std.proofs.lemmas.Int.Digits.{digits_value-lt}
 use Rattle.std.proofs.lemmas.Bool.{cases_lt}
-use Rattle.std.proofs.Math.Nat.{mul-le-mul_left, pow-le-pow_right, one-le-pow, pow-suc, zero-mul}
+use Rattle.std.proofs.Math.Nat.{mul-le-mul_left, pow-le-pow_right, one-le-pow, zero-mul}
 use Rattle.std.specs.Str.Parse.{AllDigits, digits_value}
 use Rattle.dg_decimal.specs.Value.{nearest}
 use Rattle.dg_decimal.specs.declared.magnitude.TheConstants.{CAP}

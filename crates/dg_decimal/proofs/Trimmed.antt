@@ -1,5 +1,5 @@
 -- The digits of a rest, and the zeros that they end with.
-use Rattle.std.proofs.Common.{◌≡◌, ◌≢◌, ℕ, zero, suc, ◌+◌, ◌-◌, ◌*◌, ◌/◌, ◌%◌, ◌^◌, ◌≤◌, ◌<◌, List, [], ◌∷◌, length, true, false, cond, eqb, refl, sym, ◌∙◌, ap, ⊎_elim, arith, rules}
+use Rattle.std.proofs.Common.{◌≡◌, ◌≢◌, ℕ, zero, suc, ◌+◌, ◌*◌, ◌/◌, ◌%◌, ◌^◌, ◌≤◌, ◌<◌, List, [], ◌∷◌, length, true, false, refl, sym, ◌∙◌, ap, ⊎_elim, arith}
 use Rattle.std.proofs.Math.Nat.{zero-div, zero-mod, mod-eq_of_lt, div-eq_of_lt, one-le-pow, div-lt_iff_lt-mul, le-div_iff_mul-le, div-add-mod', mod-lt, pow-succ', div-one, zero-mul}
 use Rattle.std.proofs.lemmas.Bool.{ne_eqb, eqb-true, cases_lt, cases_Bool, cond_both}
 use Rattle.std.proofs.lemmas.Nat.{pow-add}

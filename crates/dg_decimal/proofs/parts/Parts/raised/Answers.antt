@@ -1,7 +1,5 @@
-use Rattle.std.proofs.Common.{◌≡◌, ◌+◌, ◌*◌, ◌-◌, ◌^◌, ◌≤◌, ◌<◌, ℕ, List, ◌++◌, length, min, take, drop, get_or, sym, ◌∙◌, ap, arith, length-append, rules}
-use Rattle.std.specs.Str.Parse.{AllDigits, digits_value, digits_value_after}
-use Rattle.dg_decimal.specs.Form.{Number}
-use Rattle.dg_decimal.specs.Value.{nearest, numerator, denominator}
+use Rattle.std.proofs.Common.{◌≡◌, ◌*◌, ◌^◌, ℕ, List, ◌++◌, min, ◌∙◌, ap, arith, length-append}
+use Rattle.std.specs.Str.Parse.{digits_value}
 use Rattle.dg_decimal.specs.declared.magnitude.TheConstants.{CAP}
 use Rattle.std.proofs.lemmas.List.{take_all}
 use Rattle.dg_decimal.proofs.Rounding.{raised-front}
