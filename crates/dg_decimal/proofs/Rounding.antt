@@ -1,23 +1,24 @@
 -- The nearest whole number to a quotient.
-use Rattle.std.proofs.Common.{◌≡◌, ℕ, ◌+◌, ◌-◌, ◌*◌, ◌^◌, ◌≤◌, ◌<◌, min, refl, sym, ◌∙◌, ap, arith}
-use Rattle.std.proofs.Math.Nat.{mul_assoc, mul-div-mul_right, div-eq_of_lt-le, div-eq_of_lt, mul-le-mul_right}
+use Rattle.std.proofs.Common.{◌≡◌, ℕ, ◌+◌, ◌-◌, ◌*◌, ◌^◌, ◌≤◌, ◌<◌, List, ◌++◌, length, take, drop, get_or, min, refl, sym, ◌∙◌, ap, ⊎_elim, arith, length-append, length-drop}
+use Rattle.std.proofs.Math.Nat.{mul_assoc, mul-div-mul_right, div-eq_of_lt-le, div-eq_of_lt, mul-le-mul_left, mul-le-mul_right, pow-le-pow_right, one-le-pow, zero-mul}
 use Rattle.std.proofs.lemmas.Nat.{pow-add}
-use Rattle.std.proofs.Common.{List, ◌++◌, length, take, drop, get_or, ⊎_elim, length-append, length-drop}
 use Rattle.std.proofs.lemmas.Str.Parse.{digit_at}
 use Rattle.std.proofs.lemmas.Int.Digits.{digits_value-lt}
 use Rattle.std.proofs.lemmas.Bool.{cases_lt}
-use Rattle.std.proofs.Math.Nat.{mul-le-mul_left, pow-le-pow_right, one-le-pow, zero-mul}
 use Rattle.std.specs.Str.Parse.{AllDigits, digits_value}
 use Rattle.dg_decimal.specs.Value.{nearest}
 use Rattle.dg_decimal.specs.declared.magnitude.TheConstants.{CAP}
 use Rattle.dg_decimal.proofs.Digits.{value_split, AllDigits-drop}
 
+-- a quotient below one half
 pub nearest_small : (p q : ℕ) → 2 * p < q → nearest p q ≡ 0
 nearest_small p q h = div-eq_of_lt (omega (arith, h))
 
+-- a whole quotient
 pub nearest_whole : (x q : ℕ) → 0 < q → nearest (x * q) q ≡ x
 nearest_whole x q h = div-eq_of_lt-le (2 * q) (omega (arith, h)) (omega (arith, h))
 
+-- a factor that both have
 pub nearest_scale : (p q k : ℕ) → 0 < k → nearest (p * k) (q * k) ≡ nearest p q
 nearest_scale p q k h =
     let up : 2 * (p * k) + q * k ≡ (2 * p + q) * k = omega arith in

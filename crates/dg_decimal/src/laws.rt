@@ -1,5 +1,5 @@
 //! What holds of the definitions that the contracts cite. Nothing here does anything when it runs.
-ghost use Rattle.std.specs.Prelude.{◌≡◌, ◌+◌, ◌*◌, ◌<◌, ◌≤◌, ℕ, ℤ, pos, negsuc, Ok, Err, codes};
+ghost use Rattle.std.specs.Prelude.{◌≡◌, ◌+◌, ◌*◌, ◌<◌, ◌≤◌, ℕ, pos, negsuc, Ok, Err, codes};
 ghost use Rattle.dg_decimal.specs.Value.{nearest};
 ghost use Rattle.dg_decimal.specs.Reading.{reading};
 ghost use Rattle.dg_decimal.specs.Canonical.{canonical};

@@ -61,6 +61,7 @@ pub fn print(value: i64) -> DecimalText
     DecimalText { text }
 }
 
+// The whole part and the fraction of a value without its sign.
 fn push_magnitude(text: &mut ArrayString<ROOM>, magnitude: u64)
     requires small { magnitude ≤ 2 ^ 63 }
     requires room { array_string_len text.old ≤ 1 }
@@ -70,6 +71,7 @@ fn push_magnitude(text: &mut ArrayString<ROOM>, magnitude: u64)
     push_fraction(text, magnitude % BILLION);
 }
 
+// The point and the digits behind it, where the rest is not 0.
 fn push_fraction(text: &mut ArrayString<ROOM>, rest: u64)
     requires below_one { rest < 10 ^ 9 }
     requires room { array_string_len text.old + 10 ≤ 21 }
