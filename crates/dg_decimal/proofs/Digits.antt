@@ -75,13 +75,13 @@ pub take-append : (count : ℕ) (xs ys : List ℕ)
     → take (min count (length xs)) xs ++ take (count - min count (length xs)) ys ≡ take count (xs ++ ys)
 take-append count xs ys = ⊎_elim
     (λ (h : count < length xs).
-      let few : min count (length xs) ≡ count = omega (arith, h) in
-      let none : count - min count (length xs) ≡ 0 = omega (arith, h) in
-      rw (few, sub_self) (append-nil (take count xs) ∙ sym (take-append-le count xs ys (omega (arith, h)))))
+    let few : min count (length xs) ≡ count = omega (arith, h) in
+    let none : count - min count (length xs) ≡ 0 = omega (arith, h) in
+    rw (few, sub_self) (append-nil (take count xs) ∙ sym (take-append-le count xs ys (omega (arith, h)))))
     (λ (h : length xs ≤ count).
-      let all : min count (length xs) ≡ length xs = omega (arith, h) in
-      let more : length xs + (count - length xs) ≡ count = omega (arith, h) in
-      rw (all, take-length) (sym (sym (ap (λ (n : ℕ). take n (xs ++ ys)) more) ∙ take-append-add xs ys (count - length xs))))
+    let all : min count (length xs) ≡ length xs = omega (arith, h) in
+    let more : length xs + (count - length xs) ≡ count = omega (arith, h) in
+    rw (all, take-length) (sym (sym (ap (λ (n : ℕ). take n (xs ++ ys)) more) ∙ take-append-add xs ys (count - length xs))))
     (cases_lt count (length xs))
 
 pub value_front : (cap count : ℕ) (xs ys : List ℕ)
@@ -96,15 +96,15 @@ value_front cap count xs ys =
 -- digits up to a place, the digit there, and those behind it
 pub value_split : (ds : List ℕ) (kept : ℕ) → AllDigits 10 ds → kept < length ds
     → digits_value 10 ds ≡ digits_value 10 (take kept ds) * (10 ^ length (drop (kept + 1) ds) * 10)
-      + ((get_or ds kept 0 - 48) * 10 ^ length (drop (kept + 1) ds) + digits_value 10 (drop (kept + 1) ds))
+    + ((get_or ds kept 0 - 48) * 10 ^ length (drop (kept + 1) ds) + digits_value 10 (drop (kept + 1) ds))
 value_split ds kept all h =
     let whole : digits_value 10 ds ≡ digits_value 10 (take kept ds ++ drop kept ds) = ap (digits_value 10) (sym (take-append-drop kept ds)) in
     let cut = value-append 0 (take kept ds) (drop kept ds) in
     let step = drop_more ds kept 0 h in
     let digit : digit_value (get_or ds kept 0) ≡ get_or ds kept 0 - 48 =
-      omega (arith, digit_value_digit (get_or ds kept 0) (digit_at ds kept all h), digit_at ds kept all h) in
+    omega (arith, digit_value_digit (get_or ds kept 0) (digit_at ds kept all h), digit_at ds kept all h) in
     let behind : digits_value_after 10 (digits_value 10 (take kept ds)) (drop kept ds)
-        ≡ digits_value_after 10 (digits_value 10 (take kept ds) * 10 + digit_value (get_or ds kept 0)) (drop (kept + 1) ds) =
-      ap (digits_value_after 10 (digits_value 10 (take kept ds))) step in
+    ≡ digits_value_after 10 (digits_value 10 (take kept ds) * 10 + digit_value (get_or ds kept 0)) (drop (kept + 1) ds) =
+    ap (digits_value_after 10 (digits_value 10 (take kept ds))) step in
     let rest = value_after (digits_value 10 (take kept ds) * 10 + digit_value (get_or ds kept 0)) (drop (kept + 1) ds) in
     whole ∙ (cut ∙ (behind ∙ (rest ∙ rw digit (omega arith))))

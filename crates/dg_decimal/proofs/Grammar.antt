@@ -1,12 +1,11 @@
 -- The productions and the function that takes a text apart agree.
-use Rattle.std.proofs.Common.{◌≡◌, ◌≢◌, ◌⊎◌, ℕ, ◌+◌, ◌≤◌, ◌<◌, Bool, true, false, ◌&&◌, ◌||◌, cond, List, [], ◌∷◌, ◌++◌, length, take, drop, get_or, Option, Some, None, refl, sym, ◌∙◌, ap, subst, inl, inr, ⊎_elim, arith, rules, take-append-drop, append-nil}
-use Rattle.std.proofs.lemmas.Bool.{ne_eqb, eqb-true, lt-ltb, ltb-true, le-ltb, and_from, and_parts, or_left, or_right, or_cases, cond-true, cond-false, cond_both, cases_Bool}
-use Rattle.std.proofs.lemmas.List.{take_at, drop_at, nil_from_length}
+use Rattle.std.proofs.Common.{◌≡◌, ◌≢◌, ◌⊎◌, ℕ, ◌+◌, ◌≤◌, ◌<◌, Bool, true, false, ◌&&◌, ◌||◌, List, [], ◌∷◌, ◌++◌, length, take, drop, get_or, Option, Some, None, refl, sym, ◌∙◌, ap, subst, inl, inr, ⊎_elim, arith, take-append-drop, append-nil}
+use Rattle.std.proofs.lemmas.Bool.{ne_eqb, eqb-true, lt-ltb, ltb-true, and_from, and_parts, or_right, or_cases, cond-true, cond-false, cond_both, cases_Bool}
+use Rattle.std.proofs.lemmas.List.{take_at, drop_at}
 use Rattle.std.proofs.lemmas.Str.Parse.{digit_from_value}
 use Rattle.std.specs.Char.{digit_value, is_ascii_digit}
-use Rattle.std.specs.Int.{IsInRange}
-use Rattle.std.specs.List.{list_all, prefix_len, take_while}
-use Rattle.std.specs.Prelude.{◌==◌, nat_lt, slice_index}
+use Rattle.std.specs.List.{list_all, prefix_len}
+use Rattle.std.specs.Prelude.{◌==◌, nat_lt}
 use Rattle.std.specs.Str.Parse.{AllDigits}
 use Rattle.dg_decimal.specs.Form.{Number, IsSign, IsFraction, IsPower, IsExponent, Spells, point, plus, minus, small_e, capital_e}
 use Rattle.dg_decimal.specs.Reading.{begins_negative, after_sign, digits_in, after_digits, begins_with_point, fraction_in, after_fraction, is_exponent, is_exponent_or_empty, whole_in, after_whole, parts_in, is_number, number_in}
@@ -47,9 +46,10 @@ digits_end (d ∷ ds) rest all stop = rw (digit_test d all.0) (omega (arith, dig
 digits_apart : (ds rest : List ℕ) → AllDigits 10 ds → is_ascii_digit (get_or rest 0 0) ≡ false
     → (digits_in (ds ++ rest) ≡ ds) × (after_digits (ds ++ rest) ≡ rest)
 digits_apart ds rest all stop =
-    let e = digits_end ds rest all stop in
-    (ap (λ (n : ℕ). take n (ds ++ rest)) e ∙ take_at ds rest (length ds) refl,
-     ap (λ (n : ℕ). drop n (ds ++ rest)) e ∙ drop_at ds rest (length ds) refl)
+    let e = digits_end ds rest all stop in (
+      ap (λ (n : ℕ). take n (ds ++ rest)) e ∙ take_at ds rest (length ds) refl,
+      ap (λ (n : ℕ). drop n (ds ++ rest)) e ∙ drop_at ds rest (length ds) refl,
+    )
 
 -- what a text begins with that is an exponent or empty
 record Stops (text : List ℕ) : Type 0 where
@@ -58,7 +58,7 @@ record Stops (text : List ℕ) : Type 0 where
 
 fraction_apart : (digits fraction rest : List ℕ) → IsFraction digits fraction → AllDigits 10 digits → Stops rest
     → (fraction_in (fraction ++ rest) ≡ digits) × (after_fraction (fraction ++ rest) ≡ rest)
-      × (is_ascii_digit (get_or (fraction ++ rest) 0 0) ≡ false)
+    × (is_ascii_digit (get_or (fraction ++ rest) 0 0) ≡ false)
 fraction_apart digits fraction rest (inl e) all stops =
     let apart = digits_apart digits rest all stops.no_digit in
     rw e (apart.0, apart.1, refl)
@@ -127,14 +127,14 @@ number_in-spelled text n s =
     let exponent_negative = ap (λ (t : List ℕ). begins_negative (drop 1 t)) rest ∙ x.sign in
     let exponent = ap (λ (t : List ℕ). after_sign (drop 1 t)) rest ∙ x.digits_is in
     let some : 0 < length (whole_in text) + length (fraction_in (after_whole text)) =
-      omega (arith, s.some_digit, ap length whole, ap length fraction) in
+    omega (arith, s.some_digit, ap length whole, ap length fraction) in
     let is : is_number text ≡ true =
-      and_from (nat_lt 0 (length (whole_in text) + length (fraction_in (after_whole text)))) (is_exponent_or_empty (after_fraction (after_whole text)))
-        (lt-ltb 0 (length (whole_in text) + length (fraction_in (after_whole text))) some) (ap is_exponent_or_empty rest ∙ x.test) in
+    and_from (nat_lt 0 (length (whole_in text) + length (fraction_in (after_whole text)))) (is_exponent_or_empty (after_fraction (after_whole text)))
+    (lt-ltb 0 (length (whole_in text) + length (fraction_in (after_whole text))) some) (ap is_exponent_or_empty rest ∙ x.test) in
     cond-true (is_number text) (Some (parts_in text)) None is
     ∙ ap Some (same_number n (begins_negative text) (whole_in text) (fraction_in (after_whole text))
-        (begins_negative (drop 1 (after_fraction (after_whole text)))) (after_sign (drop 1 (after_fraction (after_whole text))))
-        negative whole fraction exponent_negative exponent)
+    (begins_negative (drop 1 (after_fraction (after_whole text)))) (after_sign (drop 1 (after_fraction (after_whole text))))
+    negative whole fraction exponent_negative exponent)
 
 -- ---- a text that is taken apart is what the productions make of its parts
 
@@ -144,13 +144,15 @@ sign_back (b ∷ bs) = ⊎_elim
     (λ (e : (b == 45) ≡ true). minus_back b bs e)
     (λ (e : (b == 45) ≡ false). ⊎_elim (λ (h : (b == 43) ≡ true). plus_back b bs e h) (λ (h : (b == 43) ≡ false). plain_back b bs e h) (cases_Bool (b == 43)))
     (cases_Bool (b == 45))
-    where
+  where
     minus_back : (b : ℕ) (bs : List ℕ) → (b == 45) ≡ true
         → (sign : List ℕ) × IsSign (begins_negative (b ∷ bs)) sign × (b ∷ bs ≡ sign ++ after_sign (b ∷ bs))
     minus_back b bs e = (minus ∷ [], rw e refl, rw e (ap (λ (c : ℕ). c ∷ bs) (eqb-true b 45 e)))
+
     plus_back : (b : ℕ) (bs : List ℕ) → (b == 45) ≡ false → (b == 43) ≡ true
         → (sign : List ℕ) × IsSign (begins_negative (b ∷ bs)) sign × (b ∷ bs ≡ sign ++ after_sign (b ∷ bs))
     plus_back b bs e h = (plus ∷ [], rw e (inr refl), rw (e, h) (ap (λ (c : ℕ). c ∷ bs) (eqb-true b 43 h)))
+
     plain_back : (b : ℕ) (bs : List ℕ) → (b == 45) ≡ false → (b == 43) ≡ false
         → (sign : List ℕ) × IsSign (begins_negative (b ∷ bs)) sign × (b ∷ bs ≡ sign ++ after_sign (b ∷ bs))
     plain_back b bs e h = ([], rw e (inl refl), rw (e, h) refl)
@@ -164,10 +166,11 @@ fraction_back (b ∷ bs) = ⊎_elim
     (λ (e : (b == 46) ≡ true). with_point b bs e)
     (λ (e : (b == 46) ≡ false). without_point b bs e)
     (cases_Bool (b == 46))
-    where
+  where
     with_point : (b : ℕ) (bs : List ℕ) → (b == 46) ≡ true
         → (fraction : List ℕ) × IsFraction (fraction_in (b ∷ bs)) fraction × (b ∷ bs ≡ fraction ++ after_fraction (b ∷ bs))
     with_point b bs e = (point ∷ digits_in bs, rw e (inl refl), rw e (ap (λ (c : ℕ). c ∷ bs) (eqb-true b 46 e) ∙ ap (λ (t : List ℕ). point ∷ t) (digits_back bs)))
+
     without_point : (b : ℕ) (bs : List ℕ) → (b == 46) ≡ false
         → (fraction : List ℕ) × IsFraction (fraction_in (b ∷ bs)) fraction × (b ∷ bs ≡ fraction ++ after_fraction (b ∷ bs))
     without_point b bs e = ([], rw e (inr (refl, refl)), rw e refl)
@@ -190,11 +193,17 @@ exponent_back (b ∷ bs) h =
     let more = and_parts (nat_lt 0 (length (after_sign bs))) (list_all is_ascii_digit (after_sign bs)) tests.1 in
     let sign = sign_back bs in
     record {
-      is = inl (record { letter = b; sign = sign.0; is_letter = letter_back b tests.0; is_sign = sign.1;
-        some_digit = ltb-true 0 (length (after_sign bs)) more.0; joined = ap (λ (t : List ℕ). b ∷ t) sign.2 });
+      is = inl (record {
+        letter = b;
+        sign = sign.0;
+        is_letter = letter_back b tests.0;
+        is_sign = sign.1;
+        some_digit = ltb-true 0 (length (after_sign bs)) more.0;
+        joined = ap (λ (t : List ℕ). b ∷ t) sign.2;
+      });
       digits = from_list_all (after_sign bs) more.1;
     }
-    where
+  where
     other_test : (b : ℕ) (bs : List ℕ) → is_exponent_or_empty (b ∷ bs) ≡ true → is_exponent (b ∷ bs) ≡ true
     other_test b bs h =
         let none : (length (b ∷ bs) == 0) ≡ false = ne_eqb (length (b ∷ bs)) 0 (λ e. absurd (omega (arith, e))) in
@@ -225,12 +234,12 @@ pub spelled-number_in : (text : List ℕ) (n : Number) → number_in text ≡ So
 unfolding number_in
 spelled-number_in text n h = ⊎_elim
     (λ (e : is_number text ≡ true).
-      let found : Some (parts_in text) ≡ Some n = sym (cond-true (is_number text) (Some (parts_in text)) None e) ∙ h in
-      let same : parts_in text ≡ n = cc in
-      subst (λ (m : Number). Spells text m) same (spelled_back text e))
+    let found : Some (parts_in text) ≡ Some n = sym (cond-true (is_number text) (Some (parts_in text)) None e) ∙ h in
+    let same : parts_in text ≡ n = cc in
+    subst (λ (m : Number). Spells text m) same (spelled_back text e))
     (λ (e : is_number text ≡ false).
-      let lost : None ≡ Some n = sym (cond-false (is_number text) (Some (parts_in text)) None e) ∙ h in
-      cc)
+    let lost : None ≡ Some n = sym (cond-false (is_number text) (Some (parts_in text)) None e) ∙ h in
+    cc)
     (cases_Bool (is_number text))
 
 -- ---- what is answered of a text, by the productions
@@ -242,10 +251,11 @@ range_is_number : (z : ℤ) → in_range z ≡ Err NotNumber → ⊥
 range_is_number z h = cond_both (fits z) (Ok z) (Err Range) (λ (r : Result ℤ DecimalRefusal). r ≡ Err NotNumber → ⊥) (λ _ e. cc) (λ _ e. cc) h
 
 pub reading-refused : (text : List ℕ) → (reading text ≡ Err NotNumber) ↔ ¬ ((n : Number) × Spells text n)
-reading-refused text =
-    ((λ h s. range_is_number (billionths s.0) (sym (reading-spelled text s.0 s.1) ∙ h)),
-     (λ h. none_found text h (number_in text) refl))
-    where
+reading-refused text = (
+  (λ h s. range_is_number (billionths s.0) (sym (reading-spelled text s.0 s.1) ∙ h)),
+  (λ h. none_found text h (number_in text) refl),
+)
+  where
     none_found : (text : List ℕ) → ¬ ((n : Number) × Spells text n) → (found : Option Number) → number_in text ≡ found
         → answer (number_in text) ≡ Err NotNumber
     none_found text h None e = ap answer e

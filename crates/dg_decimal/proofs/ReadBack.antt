@@ -1,18 +1,18 @@
 -- The canonical text of a value spells a number whose value it is.
-use Rattle.std.proofs.Common.{◌≡◌, ℕ, suc, ◌+◌, ◌-◌, ◌*◌, ◌/◌, ◌%◌, ◌^◌, ◌≤◌, ◌<◌, Bool, true, false, cond, List, [], ◌∷◌, ◌++◌, length, Ok, Err, refl, sym, ◌∙◌, ap, inl, inr, ⊎_elim, arith, append-nil, length-append, add-one}
-use Rattle.std.proofs.Math.Nat.{mod-lt, div-add-mod', add-zero}
-use Rattle.std.proofs.lemmas.Bool.{cases_Bool, cond_both, lt-ltb, cond-true, eqb-true}
+use Rattle.std.proofs.Common.{◌≡◌, ℕ, ◌+◌, ◌-◌, ◌*◌, ◌/◌, ◌%◌, ◌^◌, ◌<◌, Bool, true, false, List, [], ◌∷◌, ◌++◌, length, Ok, Err, refl, sym, ◌∙◌, ap, inl, inr, ⊎_elim, arith, append-nil, add-one}
+use Rattle.std.proofs.Math.Nat.{div-add-mod', add-zero}
+use Rattle.std.proofs.lemmas.Bool.{cases_Bool, lt-ltb, cond-true, eqb-true}
 use Rattle.std.proofs.lemmas.Fmt.{decimal_is_IsNumeral}
 use Rattle.std.proofs.lemmas.Nat.{pow-add}
 use Rattle.std.specs.Fmt.{decimal}
 use Rattle.std.specs.Int.{w64}
 use Rattle.std.specs.Prelude.{ℤ, pos, negsuc, neg_ℤ, FitsSigned, ◌==◌, if◌then◌else◌}
-use Rattle.std.specs.Str.Parse.{AllDigits, digits_value, digits_value_after}
+use Rattle.std.specs.Str.Parse.{AllDigits, digits_value}
 use Rattle.dg_decimal.specs.declared.refusal.DecimalRefusal.TheVariants.{Range}
 use Rattle.dg_decimal.specs.Form.{Number, Spells, IsSign, IsFraction, minus}
-use Rattle.dg_decimal.specs.Value.{billion, nearest, numerator, denominator, billionths, fits}
+use Rattle.dg_decimal.specs.Value.{billion, nearest, numerator, denominator, fits}
 use Rattle.dg_decimal.specs.Reading.{reading, in_range}
-use Rattle.dg_decimal.specs.Canonical.{canonical, magnitude_text, fraction_text, fraction_digits, without_zeros, padded_digits}
+use Rattle.dg_decimal.specs.Canonical.{canonical, magnitude_text, fraction_text, fraction_digits, padded_digits}
 use Rattle.dg_decimal.proofs.Digits.{value-append, value_after}
 use Rattle.dg_decimal.proofs.Rounding.{nearest_raised}
 use Rattle.dg_decimal.proofs.Trimmed.{zeros, AllDigits-without_zeros, AllDigits-padded, digits_value-padded, length-padded}
@@ -27,12 +27,12 @@ sign_text negative = if negative then minus ∷ [] else []
 
 abbrev number_of : Bool → ℕ → Number
 number_of negative magnitude = record {
-      negative = negative;
-      whole = decimal (magnitude / billion);
-      fraction = digits_of_rest (magnitude % billion);
-      exponent_negative = false;
-      exponent = [];
-    }
+  negative = negative;
+  whole = decimal (magnitude / billion);
+  fraction = digits_of_rest (magnitude % billion);
+  exponent_negative = false;
+  exponent = [];
+}
 
 sign_is : (negative : Bool) → IsSign negative (sign_text negative)
 sign_is true = refl
@@ -108,7 +108,7 @@ value_back negative magnitude small =
     let ds = digits_of_rest (magnitude % billion) in
     ap (λ (n : ℕ). nearest (digits_value 10 (decimal (magnitude / billion) ++ ds) * 10 ^ 9) (10 ^ n)) (add-zero (length ds))
     ∙ (whole_and_rest (magnitude / billion) (magnitude % billion) fraction.zeros_left (decimal (magnitude / billion)) ds
-      whole.1 fraction.places fraction.value
+    whole.1 fraction.places fraction.value
     ∙ div-add-mod' magnitude billion)
 
 pub reading-canonical : (value : ℤ) → FitsSigned w64 value → reading (canonical value) ≡ Ok value

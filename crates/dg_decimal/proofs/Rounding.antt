@@ -1,23 +1,24 @@
 -- The nearest whole number to a quotient.
-use Rattle.std.proofs.Common.{◌≡◌, ℕ, ◌+◌, ◌-◌, ◌*◌, ◌/◌, ◌^◌, ◌≤◌, ◌<◌, min, refl, sym, ◌∙◌, ap, arith}
-use Rattle.std.proofs.Math.Nat.{mul_assoc, mul-div-mul_right, div-eq_of_lt-le, div-eq_of_lt, mul-le-mul_right}
+use Rattle.std.proofs.Common.{◌≡◌, ℕ, ◌+◌, ◌-◌, ◌*◌, ◌^◌, ◌≤◌, ◌<◌, List, ◌++◌, length, take, drop, get_or, min, refl, sym, ◌∙◌, ap, ⊎_elim, arith, length-append, length-drop}
+use Rattle.std.proofs.Math.Nat.{mul_assoc, mul-div-mul_right, div-eq_of_lt-le, div-eq_of_lt, mul-le-mul_left, mul-le-mul_right, pow-le-pow_right, one-le-pow, zero-mul}
 use Rattle.std.proofs.lemmas.Nat.{pow-add}
-use Rattle.std.proofs.Common.{List, ◌++◌, length, take, drop, get_or, ⊎_elim, length-append, length-drop, rules}
 use Rattle.std.proofs.lemmas.Str.Parse.{digit_at}
 use Rattle.std.proofs.lemmas.Int.Digits.{digits_value-lt}
 use Rattle.std.proofs.lemmas.Bool.{cases_lt}
-use Rattle.std.proofs.Math.Nat.{mul-le-mul_left, pow-le-pow_right, one-le-pow, pow-suc, zero-mul}
 use Rattle.std.specs.Str.Parse.{AllDigits, digits_value}
 use Rattle.dg_decimal.specs.Value.{nearest}
 use Rattle.dg_decimal.specs.declared.magnitude.TheConstants.{CAP}
 use Rattle.dg_decimal.proofs.Digits.{value_split, AllDigits-drop}
 
+-- a quotient below one half
 pub nearest_small : (p q : ℕ) → 2 * p < q → nearest p q ≡ 0
 nearest_small p q h = div-eq_of_lt (omega (arith, h))
 
+-- a whole quotient
 pub nearest_whole : (x q : ℕ) → 0 < q → nearest (x * q) q ≡ x
 nearest_whole x q h = div-eq_of_lt-le (2 * q) (omega (arith, h)) (omega (arith, h))
 
+-- a factor that both have
 pub nearest_scale : (p q k : ℕ) → 0 < k → nearest (p * k) (q * k) ≡ nearest p q
 nearest_scale p q k h =
     let up : 2 * (p * k) + q * k ≡ (2 * p + q) * k = omega arith in
@@ -43,8 +44,8 @@ ten_pos k = one-le-pow k 10 (omega arith)
 pub nearest_raised : (value up down : ℕ) → down ≤ up → nearest (value * 10 ^ up) (10 ^ down) ≡ value * 10 ^ (up - down)
 nearest_raised value up down h =
     let split : 10 ^ up ≡ 10 ^ (up - down) * 10 ^ down =
-      let e : up ≡ (up - down) + down = omega (arith, h) in
-      ap (λ (k : ℕ). 10 ^ k) e ∙ pow-add 10 (up - down) down in
+    let e : up ≡ (up - down) + down = omega (arith, h) in
+    ap (λ (k : ℕ). 10 ^ k) e ∙ pow-add 10 (up - down) down in
     let moved = mul_assoc value (10 ^ (up - down)) (10 ^ down) in
     ap (λ (p : ℕ). nearest (value * p) (10 ^ down)) split
     ∙ (ap (λ (p : ℕ). nearest p (10 ^ down)) (sym moved)
@@ -54,8 +55,8 @@ nearest_raised value up down h =
 pub nearest_lowered : (value up down : ℕ) → up ≤ down → nearest (value * 10 ^ up) (10 ^ down) ≡ nearest value (10 ^ (down - up))
 nearest_lowered value up down h =
     let split : 10 ^ down ≡ 10 ^ (down - up) * 10 ^ up =
-      let e : down ≡ (down - up) + up = omega (arith, h) in
-      ap (λ (k : ℕ). 10 ^ k) e ∙ pow-add 10 (down - up) up in
+    let e : down ≡ (down - up) + up = omega (arith, h) in
+    ap (λ (k : ℕ). 10 ^ k) e ∙ pow-add 10 (down - up) up in
     rw split (nearest_scale value (10 ^ (down - up)) (10 ^ up) (ten_pos up))
 
 -- the digits that stay, and the one behind them, which alone decides how they are rounded
@@ -69,7 +70,7 @@ pub nearest_down : (ds : List ℕ) (kept : ℕ) → AllDigits 10 ds → kept < l
 nearest_down ds kept all h low =
     rw (tens_split ds kept h, value_split ds kept all h)
     (nearest_low (digits_value 10 (take kept ds)) (get_or ds kept 0 - 48) (digits_value 10 (drop (kept + 1) ds)) (10 ^ length (drop (kept + 1) ds))
-      (omega (arith, low)) (digits_value-lt 10 (drop (kept + 1) ds) (AllDigits-drop (kept + 1) ds all)))
+    (omega (arith, low)) (digits_value-lt 10 (drop (kept + 1) ds) (AllDigits-drop (kept + 1) ds all)))
 
 pub nearest_up : (ds : List ℕ) (kept : ℕ) → AllDigits 10 ds → kept < length ds → 53 ≤ get_or ds kept 0
     → nearest (digits_value 10 ds) (10 ^ (length ds - kept)) ≡ digits_value 10 (take kept ds) + 1
@@ -77,7 +78,7 @@ nearest_up ds kept all h high =
     let range = digit_at ds kept all h in
     rw (tens_split ds kept h, value_split ds kept all h)
     (nearest_high (digits_value 10 (take kept ds)) (get_or ds kept 0 - 48) (digits_value 10 (drop (kept + 1) ds)) (10 ^ length (drop (kept + 1) ds))
-      (omega (arith, high)) (omega (arith, range)) (digits_value-lt 10 (drop (kept + 1) ds) (AllDigits-drop (kept + 1) ds all)))
+    (omega (arith, high)) (omega (arith, range)) (digits_value-lt 10 (drop (kept + 1) ds) (AllDigits-drop (kept + 1) ds all)))
 
 -- digits that lie behind the first place that counts, all of them
 pub nearest_none : (ds : List ℕ) (tens : ℕ) → AllDigits 10 ds → length ds < tens → nearest (digits_value 10 ds) (10 ^ tens) ≡ 0
@@ -105,10 +106,10 @@ capped_first : (value power : ℕ) → 1 ≤ power → min (min value CAP * powe
 capped_first value power h = ⊎_elim
     (λ (small : value < CAP). let e : min value CAP ≡ value = omega (arith, small) in rw e refl)
     (λ (big : CAP ≤ value).
-      let e : min value CAP ≡ CAP = omega (arith, big) in
-      let first : CAP * 1 ≤ CAP * power = mul-le-mul_left CAP h in
-      let second : CAP * power ≤ value * power = mul-le-mul_right power big in
-      rw e (omega (arith, first, second)))
+    let e : min value CAP ≡ CAP = omega (arith, big) in
+    let first : CAP * 1 ≤ CAP * power = mul-le-mul_left CAP h in
+    let second : CAP * power ≤ value * power = mul-le-mul_right power big in
+    rw e (omega (arith, first, second)))
     (cases_lt value CAP)
 
 -- a front may be capped before it is raised
@@ -117,9 +118,9 @@ raised-front value tens =
     let big = one-le-pow (min tens 19) 10 (omega arith) in
     capped_first value (10 ^ min tens 19) big
     ∙ ⊎_elim
-      (λ (h : tens < 19). let e : min tens 19 ≡ tens = omega (arith, h) in rw e refl)
-      (λ (h : 19 ≤ tens). let e : min tens 19 ≡ 19 = omega (arith, h) in rw e (raised-capped value 19 tens (omega arith) h))
-      (cases_lt tens 19)
+    (λ (h : tens < 19). let e : min tens 19 ≡ tens = omega (arith, h) in rw e refl)
+    (λ (h : 19 ≤ tens). let e : min tens 19 ≡ 19 = omega (arith, h) in rw e (raised-capped value 19 tens (omega arith) h))
+    (cases_lt tens 19)
 
 -- Exponents that are further off than the text is long are one: either way, under the cap.
 far_up : (value places few many : ℕ) → places + 10 ≤ few → places + 10 ≤ many

@@ -1,7 +1,6 @@
 -- What reading a text answers, as a function that computes.
 use Rattle.std.specs.Prelude.{ℕ, ◌+◌, Bool, ◌&&◌, ◌||◌, List, [], length, drop, ◌==◌, nat_lt, slice_index, if◌then◌else◌, Option, Some, None, Result, Ok, Err, ℤ}
 use Rattle.std.specs.Char.{is_ascii_digit}
-
 use Rattle.std.specs.List.{list_all, prefix_len, take_while}
 use Rattle.dg_decimal.specs.declared.refusal.DecimalRefusal.{DecimalRefusal}
 use Rattle.dg_decimal.specs.declared.refusal.DecimalRefusal.TheVariants.{NotNumber, Range}

@@ -1,5 +1,5 @@
 -- The exact value of a number, and the whole number of billionths that it is rounded to.
-use Rattle.std.specs.Prelude.{ℕ, ◌+◌, ◌*◌, ◌/◌, ◌^◌, Bool, List, ◌++◌, length, ℤ, pos, negsuc, neg_ℤ, nat_lt, if◌then◌else◌}
+use Rattle.std.specs.Prelude.{ℕ, ◌+◌, ◌*◌, ◌/◌, ◌^◌, Bool, ◌++◌, length, ℤ, pos, negsuc, neg_ℤ, nat_lt, if◌then◌else◌}
 use Rattle.std.specs.Str.Parse.{digits_value}
 use Rattle.dg_decimal.specs.Form.{Number}
 

@@ -5,6 +5,7 @@
 #![tactic(auto)]
 
 mod arithmetic;
+mod laws;
 mod magnitude;
 mod parts;
 mod printing;
@@ -14,6 +15,7 @@ mod refusal;
 mod tests;
 
 pub use arithmetic::{add, mul};
-pub use printing::{DecimalText, print, reads_back};
+pub use laws::{reads_back, rounds_to_nearest, worked_cases};
+pub use printing::{DecimalText, print};
 pub use reading::read;
 pub use refusal::{DecimalRefusal, Range};

@@ -48,6 +48,7 @@ impl Parts<'_> {
         }
     }
 
+    // The digits with so many zeros behind them; capped.
     fn raised(&self, tens: u128) -> u128
         ensures { result ≡ min (digits_value 10 (self.now.whole ++ self.now.fraction) * 10 ^ tens) CAP }
     {
@@ -55,6 +56,7 @@ impl Parts<'_> {
         (self.front(self.len()) * power).min(CAP)
     }
 
+    // The digits without so many at the end, rounded by the first that is left out; capped.
     fn lowered(&self, tens: u128) -> u128
         requires { 0 < tens }
         ensures { result ≡ min (nearest (digits_value 10 (self.now.whole ++ self.now.fraction)) (10 ^ tens)) CAP }
@@ -72,6 +74,7 @@ impl Parts<'_> {
         }
     }
 
+    // How many digits there are.
     fn len(&self) -> usize
         ensures len { result ≡ length self.now.whole + length self.now.fraction }
         ensures digits { AllDigits 10 (self.now.whole ++ self.now.fraction) }
@@ -89,6 +92,7 @@ impl Parts<'_> {
         grown(value, &self.fraction[..count - whole])
     }
 
+    // The digit at a place, of those before and behind the point.
     fn digit(&self, place: usize) -> u8
         requires { place < length self.now.whole + length self.now.fraction }
         ensures { result ≡ slice_index (self.now.whole ++ self.now.fraction) place }

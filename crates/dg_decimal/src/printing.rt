@@ -1,11 +1,11 @@
-//! Printing a value, and reading it back.
-ghost use Rattle.std.specs.Prelude.{◌≡◌, ◌+◌, ◌^◌, ◌≤◌, ◌<◌, [], ◌∷◌, ◌++◌, length, Ok};
+//! Printing a value.
+ghost use Rattle.std.specs.Prelude.{◌≡◌, ◌+◌, ◌^◌, ◌≤◌, ◌<◌, [], ◌∷◌, ◌++◌, length};
 ghost use Rattle.arrayvec.specs.ArrayString.{array_string_len};
 ghost use Rattle.dg_decimal.specs.Canonical.{canonical, magnitude_text, fraction_text, fraction_digits};
-ghost use Rattle.dg_decimal.specs.Reading.{reading};
 
 use arrayvec::ArrayString;
 use itoa::Buffer;
+use std::fmt;
 use std::marker::Model;
 
 // How many billionths one is.
@@ -15,7 +15,7 @@ const BILLION: u64 = 1_000_000_000;
 const ROOM: usize = 21;
 
 /// A printed value. It holds its bytes itself, at most 21, and takes no memory.
-#[derive(Debug, Drop)]
+#[derive(Clone, Debug, Drop)]
 pub struct DecimalText {
     text: ArrayString<ROOM>,
 }
@@ -31,9 +31,20 @@ impl Model for DecimalText {
 impl DecimalText {
     /// The text.
     pub fn as_str(&self) -> &str
-        ensures { result.now ≡ self.now }
+        ensures text { result.now ≡ self.now }
+        ensures short { length result.now ≤ 21 }
     {
         self.text.as_str()
+    }
+}
+
+impl fmt::Display for DecimalText {
+    ghost use Rattle.std.specs.Prelude.{Some};
+
+    ghost output = { λ t. Some t };
+
+    fn fmt<W: fmt::Write>(&self, f: &mut fmt::Formatter<W>) -> fmt::Result {
+        f.pad(self.as_str())
     }
 }
 
@@ -50,6 +61,7 @@ pub fn print(value: i64) -> DecimalText
     DecimalText { text }
 }
 
+// The whole part and the fraction of a value without its sign.
 fn push_magnitude(text: &mut ArrayString<ROOM>, magnitude: u64)
     requires small { magnitude ≤ 2 ^ 63 }
     requires room { array_string_len text.old ≤ 1 }
@@ -59,6 +71,7 @@ fn push_magnitude(text: &mut ArrayString<ROOM>, magnitude: u64)
     push_fraction(text, magnitude % BILLION);
 }
 
+// The point and the digits behind it, where the rest is not 0.
 fn push_fraction(text: &mut ArrayString<ROOM>, rest: u64)
     requires below_one { rest < 10 ^ 9 }
     requires room { array_string_len text.old + 10 ≤ 21 }
@@ -93,8 +106,3 @@ fn push_digit(text: &mut ArrayString<ROOM>, digit: u8)
 {
     text.push(char::from(b'0' + digit));
 }
-
-/// What is printed reads back as the value.
-pub fn reads_back(value: i64)
-    ensures { reading (canonical value) ≡ Ok value }
-{}

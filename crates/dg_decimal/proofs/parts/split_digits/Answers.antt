@@ -1,4 +1,3 @@
-use Rattle.std.proofs.Common.{◌≡◌, ℕ, List, take, ap, ◌∙◌}
 use Rattle.dg_decimal.proofs.Digits.{AllDigits-take_while}
 use Rattle.dg_decimal.proofs.parts.split_digits.Goals as goal
 

@@ -1,11 +1,10 @@
-use Rattle.std.proofs.Common.{◌≡◌, ℕ, ◌<◌, Bool, ◌&&◌, ◌||◌, false, List, drop, get_or, length, true, eqb, ltb, ◌∙◌, ap, sym, rules, arith}
+use Rattle.std.proofs.Common.{◌≡◌, Bool, ◌&&◌, ◌||◌, false, drop, length, true, rules}
 use Rattle.std.specs.Prelude.{nat_lt, ◌==◌, slice_index}
 use Rattle.std.specs.List.{list_all}
 use Rattle.std.specs.Char.{is_ascii_digit}
-use Rattle.std.specs.Str.Parse.{AllDigits}
 use Rattle.std.proofs.lemmas.List.{take_rest}
 use Rattle.dg_decimal.specs.Form.{small_e, capital_e}
-use Rattle.dg_decimal.specs.Reading.{is_exponent_or_empty, after_sign, begins_negative}
+use Rattle.dg_decimal.specs.Reading.{is_exponent_or_empty, after_sign}
 use Rattle.dg_decimal.proofs.Digits.{from_list_all}
 use Rattle.dg_decimal.proofs.parts.split_exponent.Goals as goal
 
@@ -22,6 +21,6 @@ returns-else-not-are_digits c =
     let some : nat_lt 0 (length c.split_sign-negative.result.1.now) ≡ true = search rules in
     let letter : (slice_index text 0 == small_e || slice_index text 0 == capital_e) ≡ true = search rules in
     let is : is_exponent_or_empty c.args.text.now ≡ true =
-      passes (length text == 0) (slice_index text 0 == small_e || slice_index text 0 == capital_e) (nat_lt 0 (length (after_sign (drop 1 text))))
-        (list_all is_ascii_digit (after_sign (drop 1 text))) letter (rw rest at some) (rw rest at digits) in
+    passes (length text == 0) (slice_index text 0 == small_e || slice_index text 0 == capital_e) (nat_lt 0 (length (after_sign (drop 1 text))))
+    (list_all is_ascii_digit (after_sign (drop 1 text))) letter (rw rest at some) (rw rest at digits) in
     (is, negative, rest, from_list_all c.split_sign-negative.result.1.now digits)

@@ -33,7 +33,7 @@ loop-left-preserved c =
       few = omega arith;
       room = omega (arith, ap length c.push_digit.ensures, length-append l.text.bytes ((48 + l.left / c.pow-unit.result) ∷ []), some);
       pushed = step (l.places - 1) l.left c.pow-unit.result l.text.bytes c.push_digit.new.text.bytes (c.args.text.now.bytes ++ fraction_digits c.args.rest)
-        (omega arith) below c.pow-unit.ensures c.push_digit.ensures pushed;
+          (omega arith) below c.pow-unit.ensures c.push_digit.ensures pushed;
     }
 
 pub returns : goal.returns

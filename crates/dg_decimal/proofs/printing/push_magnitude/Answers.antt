@@ -1,6 +1,5 @@
-use Rattle.std.proofs.Common.{◌≡◌, ◌+◌, ◌/◌, ◌^◌, ◌<◌, ℕ, length, ap, arith}
+use Rattle.std.proofs.Common.{◌/◌, length, ap, arith}
 use Rattle.std.proofs.lemmas.Fmt.{length-decimal-le}
-use Rattle.std.specs.Fmt.{decimal}
 use Rattle.dg_decimal.proofs.printing.push_magnitude.Goals as goal
 
 pub push_fraction-requires-clause-room : goal.push_fraction-requires-clause-room

@@ -1,5 +1,4 @@
-use Rattle.std.proofs.Common.{◌≡◌, ◌∙◌, ap}
-use Rattle.dg_decimal.specs.Form.{Number, Spells}
+use Rattle.std.proofs.Common.{◌∙◌, ap}
 use Rattle.dg_decimal.specs.Reading.{reading}
 use Rattle.dg_decimal.proofs.Grammar.{reading-spelled}
 use Rattle.dg_decimal.proofs.reading.read.Goals as goal

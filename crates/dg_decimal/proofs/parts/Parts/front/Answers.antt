@@ -1,7 +1,5 @@
-use Rattle.std.proofs.Common.{◌≡◌, ◌+◌, ◌*◌, ◌-◌, ◌^◌, ◌≤◌, ◌<◌, ℕ, List, ◌++◌, length, min, take, drop, get_or, sym, ◌∙◌, ap, arith, rules, length-append}
-use Rattle.std.specs.Str.Parse.{AllDigits, digits_value, digits_value_after}
-use Rattle.dg_decimal.specs.Form.{Number}
-use Rattle.dg_decimal.specs.Value.{nearest, numerator, denominator}
+use Rattle.std.proofs.Common.{◌≡◌, ◌-◌, ℕ, List, ◌++◌, length, min, take}
+use Rattle.std.specs.Str.Parse.{digits_value, digits_value_after}
 use Rattle.dg_decimal.specs.declared.magnitude.TheConstants.{CAP}
 use Rattle.dg_decimal.proofs.Digits.{AllDigits-take, value_front}
 use Rattle.dg_decimal.proofs.parts.Parts.front.Goals as goal
@@ -21,4 +19,4 @@ halves count whole value all ws fs w v a = rw a (rw v (rw w (value_front CAP cou
 pub returns : goal.returns
 returns c =
     rw (← c.self.view_is) (halves c.args.count c.min-whole.result c.grown-value.result c.grown.result c.self.inside.whole.now c.self.inside.fraction.now
-      c.min-whole.ensures c.grown-value.ensures c.grown.ensures)
+    c.min-whole.ensures c.grown-value.ensures c.grown.ensures)

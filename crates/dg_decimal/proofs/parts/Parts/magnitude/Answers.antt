@@ -1,7 +1,6 @@
-use Rattle.std.proofs.Common.{◌≡◌, ◌+◌, ◌*◌, ◌-◌, ◌^◌, ◌≤◌, ◌<◌, ℕ, List, ◌++◌, length, min, take, drop, get_or, sym, ◌∙◌, ap, arith, rules, length-append}
-use Rattle.std.specs.Str.Parse.{AllDigits, digits_value, digits_value_after}
-use Rattle.dg_decimal.specs.Form.{Number}
-use Rattle.dg_decimal.specs.Value.{nearest, numerator, denominator}
+use Rattle.std.proofs.Common.{◌≡◌, ◌+◌, ◌*◌, ◌^◌, ◌<◌, ℕ, List, ◌++◌, length, min, ap, arith}
+use Rattle.std.specs.Str.Parse.{AllDigits, digits_value}
+use Rattle.dg_decimal.specs.Value.{nearest}
 use Rattle.dg_decimal.specs.declared.magnitude.TheConstants.{CAP}
 use Rattle.std.proofs.Math.Nat.{add-zero}
 use Rattle.dg_decimal.proofs.Digits.{AllDigits-append}
@@ -26,11 +25,11 @@ returns-then-self c =
     let p = c.self.inside in
     let e = rw (← c.self.view_is) at c.scaled.ensures in
     rw (← c.self.view_is, c.if-self.true) (lowered p.whole.now p.fraction.now p.exponent.now c.grown-exponent.result c.scaled.result
-      (AllDigits-append p.whole.now p.fraction.now c.self.invariant.0 c.self.invariant.1) (omega arith) c.grown-exponent.ensures e)
+    (AllDigits-append p.whole.now p.fraction.now c.self.invariant.0 c.self.invariant.1) (omega arith) c.grown-exponent.ensures e)
 
 pub returns-else-self : goal.returns-else-self
 returns-else-self c =
     let p = c.self.inside in
     let e = rw (← c.self.view_is) at c.scaled-else-self.ensures in
     rw (← c.self.view_is, c.if-self.false) (raised p.whole.now p.fraction.now p.exponent.now c.grown-exponent.result c.scaled-else-self.result
-      (omega arith) c.grown-exponent.ensures e)
+    (omega arith) c.grown-exponent.ensures e)

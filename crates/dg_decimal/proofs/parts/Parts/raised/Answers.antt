@@ -1,7 +1,5 @@
-use Rattle.std.proofs.Common.{◌≡◌, ◌+◌, ◌*◌, ◌-◌, ◌^◌, ◌≤◌, ◌<◌, ℕ, List, ◌++◌, length, min, take, drop, get_or, sym, ◌∙◌, ap, arith, length-append, rules}
-use Rattle.std.specs.Str.Parse.{AllDigits, digits_value, digits_value_after}
-use Rattle.dg_decimal.specs.Form.{Number}
-use Rattle.dg_decimal.specs.Value.{nearest, numerator, denominator}
+use Rattle.std.proofs.Common.{◌≡◌, ◌*◌, ◌^◌, ℕ, List, ◌++◌, min, ◌∙◌, ap, arith, length-append}
+use Rattle.std.specs.Str.Parse.{digits_value}
 use Rattle.dg_decimal.specs.declared.magnitude.TheConstants.{CAP}
 use Rattle.std.proofs.lemmas.List.{take_all}
 use Rattle.dg_decimal.proofs.Rounding.{raised-front}
@@ -17,5 +15,5 @@ returns c =
     let ds = c.args.self.now.whole ++ c.args.self.now.fraction in
     let whole = take_all c.len.result ds (omega (arith, length-append c.args.self.now.whole c.args.self.now.fraction, c.len.ensures.len)) in
     product (digits_value 10 ds) c.args.tens c.front.result c.pow-power.result c.min-2.result
-      (c.front.ensures ∙ ap (λ (xs : List ℕ). min (digits_value 10 xs) CAP) whole)
-      (c.pow-power.ensures ∙ ap (λ (k : ℕ). 10 ^ k) c.min.ensures) c.min-2.ensures
+    (c.front.ensures ∙ ap (λ (xs : List ℕ). min (digits_value 10 xs) CAP) whole)
+    (c.pow-power.ensures ∙ ap (λ (k : ℕ). 10 ^ k) c.min.ensures) c.min-2.ensures

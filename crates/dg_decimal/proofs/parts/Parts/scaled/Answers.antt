@@ -1,7 +1,5 @@
-use Rattle.std.proofs.Common.{◌≡◌, ◌+◌, ◌*◌, ◌-◌, ◌^◌, ◌≤◌, ◌<◌, ℕ, List, ◌++◌, length, min, take, drop, get_or, sym, ◌∙◌, ap, arith, rules, length-append}
-use Rattle.std.specs.Str.Parse.{AllDigits, digits_value, digits_value_after}
-use Rattle.dg_decimal.specs.Form.{Number}
-use Rattle.dg_decimal.specs.Value.{nearest, numerator, denominator}
+use Rattle.std.proofs.Common.{ℕ, ◌++◌, min, sym, ◌∙◌, ap, arith}
+use Rattle.std.specs.Str.Parse.{digits_value}
 use Rattle.dg_decimal.specs.declared.magnitude.TheConstants.{CAP}
 use Rattle.dg_decimal.proofs.Rounding.{nearest_raised, nearest_lowered}
 use Rattle.dg_decimal.proofs.parts.Parts.scaled.Goals as goal
