@@ -3,5 +3,6 @@ pub mod Text
 pub mod Play
 pub mod Out
 pub mod Printed
+pub mod Statement
 pub mod FirstForm
 pub mod FirstLaws

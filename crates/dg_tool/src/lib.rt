@@ -9,10 +9,11 @@ mod output;
 mod play;
 mod printing;
 mod reading;
+mod run;
 mod text;
 mod total;
 mod words;
 
 
-pub use command::{Command, Name};
+pub use run::{Ended, run_alone};
 

@@ -1,5 +1,5 @@
 //! What a run has to print, before any of it is put.
-ghost use Rattle.std.specs.Prelude.{◌≡◌, map, string_bytes, IfOk, IfSome};
+ghost use Rattle.std.specs.Prelude.{◌≡◌, ◌≤◌, map, string_bytes, IfOk, IfSome};
 ghost use Rattle.std.specs.Option.{option_map};
 ghost use Rattle.dg_base.specs.First.{first_tables};
 ghost use Rattle.dg_files.specs.Outcome.{HasCause};
@@ -32,6 +32,7 @@ pub(crate) fn output_of<F: Files, L: Ledger>(
 ) -> Result<Out, Refusal>
     ensures told { IfOk result (λ o. IfSome (F.tree files.old) (λ t. o ≡ out_of first_tables t (map string_bytes words.now))) }
     ensures usage { IfOk result (λ o. o.status ≡ 1 → script_named (map string_bytes words.now) ≡ None) }
+    ensures status { IfOk result (λ o. o.status ≤ 3) }
     ensures tree { F.tree files.new ≡ F.tree files.old }
     ensures cause { HasCause (F.faults files.old) (F.faults files.new) result }
 {
