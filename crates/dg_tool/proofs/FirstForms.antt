@@ -1,5 +1,5 @@
 -- The first form is kept by each change of the graph.
-use Rattle.std.proofs.Common.{◌≡◌, ℕ, ◌+◌, List, [], ◌∷◌, ◌++◌, Bool, true, false, cond, ◌&&◌, ◌||◌, eqb, Option, Some, None, length, refl, sym, ap, ◌∙◌, subst, IsTrue, is_some, option_map, true≢false}
+use Rattle.std.proofs.Common.{◌≡◌, ℕ, ◌+◌, List, [], ◌∷◌, Bool, true, false, cond, ◌&&◌, eqb, Option, Some, None, length, refl, sym, ap, ◌∙◌, subst, IsTrue, is_some, option_map, true≢false}
 use Rattle.std.specs.List.{list_all}
 use Rattle.std.specs.Option.{option_or}
 use Rattle.std.proofs.lemmas.Bool.{eqb-true}
@@ -7,9 +7,7 @@ use Rattle.std.proofs.lemmas.List.Folds.{list_all-append}
 use Rattle.dg_base.specs.declared.ids.NodeId.{NodeId}
 use Rattle.dg_base.specs.declared.ids.Kind.{Kind}
 use Rattle.dg_base.specs.declared.ids.ArcRec.{ArcRec}
-use Rattle.dg_base.specs.declared.ids.Label.{Label}
 use Rattle.dg_base.specs.declared.datum.Datum.{Datum}
-use Rattle.dg_base.specs.declared.datum.Datum.TheVariants as datum
 use Rattle.dg_base.specs.declared.graph.Node.{Node}
 use Rattle.dg_base.specs.Same.{same_node, same_label}
 use Rattle.dg_base.specs.Graph.{Graph, node_at, has_node, own_of, own_value, put_value}
@@ -46,7 +44,7 @@ arc_again : (g now : Graph) (a : ArcRec) →
 arc_again g now a keeps h =
     let parts = both_of ((eqb a.input.0 2) && (eqb a.src.label.0 1)) (is_kind num (kind_of g a.src.node)) h in
     both ((eqb a.input.0 2) && (eqb a.src.label.0 1)) (is_kind num (kind_of now a.src.node)) parts.0
-      (ap (is_kind num) (keeps a.src.node parts.1) ∙ parts.1)
+    (ap (is_kind num) (keeps a.src.node parts.1) ∙ parts.1)
 
 arcs_again : (g now : Graph) (as_ : List ArcRec) →
     ((n : NodeId) → is_kind num (kind_of g n) ≡ true → kind_of now n ≡ kind_of g n) →
@@ -73,9 +71,9 @@ IsFirstForm-with_node g k h =
       numbered = IsNumbered-with_node g k h.numbered;
       unmarked = λ n. ap is_marked (node_at-with_node g (plain_node (length g.nodes + 1) k) n) ∙ marked_or (node_at g n) _ (length g.nodes + 1) k (h.unmarked n);
       numbers = λ n. ap (λ (o : Option Node). is_number_or_none (own_of o value)) (node_at-with_node g (plain_node (length g.nodes + 1) k) n)
-        ∙ number_or (node_at g n) _ (length g.nodes + 1) k (h.numbers n);
+          ∙ number_or (node_at g n) _ (length g.nodes + 1) k (h.numbers n);
       arcs = arcs_again g (with_node g (plain_node (length g.nodes + 1) k)) g.arcs
-        (λ n is. kind_of-with_node_kept g k n h.numbered (has_node-of_kind g num n h.numbered is)) h.arcs
+          (λ n is. kind_of-with_node_kept g k n h.numbered (has_node-of_kind g num n h.numbered is)) h.arcs;
     }
 
 -- a value changes no mark and no kind
@@ -94,7 +92,7 @@ module _ (g : Graph) (n : NodeId) (v : Datum) (h : IsFirstForm g) (there : IsTru
   number_at : (m : NodeId) (b : Bool) → same_node n m ≡ b → is_number_or_none (own_value (with_value g n value v) m value) ≡ true
   number_at m true e =
       subst (λ (i : NodeId). is_number_or_none (own_value (with_value g n value v) i value) ≡ true) (node_is n m (eqb-true n.0 m.0 e))
-        (ap is_number_or_none (own_value-with_value_same g n value v there) ∙ number)
+      (ap is_number_or_none (own_value-with_value_same g n value v there) ∙ number)
   number_at m false e =
       ap is_number_or_none (own_value-with_value_other g n value v m value (ap (λ b. b && same_label value value) e)) ∙ h.numbers m
 
@@ -103,7 +101,7 @@ module _ (g : Graph) (n : NodeId) (v : Datum) (h : IsFirstForm g) (there : IsTru
     numbered = IsNumbered-with_value g n value v h.numbered;
     unmarked = λ m. ap is_marked (node_at-with_value g n value v m) ∙ marked-valued n v (node_at g m) ∙ h.unmarked m;
     numbers = λ m. number_at m (same_node n m) refl;
-    arcs = arcs_again g (with_value g n value v) g.arcs (λ m is. kind_of-with_value g n value v m h.numbered) h.arcs
+    arcs = arcs_again g (with_value g n value v) g.arcs (λ m is. kind_of-with_value g n value v m h.numbered) h.arcs;
   }
 
 pub IsFirstForm-with_arc : (g : Graph) (a : ArcRec) → IsFirstForm g → is_first_arc g a ≡ true → IsFirstForm (with_arc g a)
@@ -114,7 +112,7 @@ IsFirstForm-with_arc g a h is =
       unmarked = h.unmarked;
       numbers = h.numbers;
       arcs = list_all-append (is_first_arc (with_arc g a)) g.arcs (a ∷ [])
-        ∙ both (list_all (is_first_arc (with_arc g a)) g.arcs) (list_all (is_first_arc (with_arc g a)) (a ∷ []))
-            (arcs_again g (with_arc g a) g.arcs keeps h.arcs)
-            (both (is_first_arc (with_arc g a) a) true (arc_again g (with_arc g a) a keeps is) refl)
+          ∙ both (list_all (is_first_arc (with_arc g a)) g.arcs) (list_all (is_first_arc (with_arc g a)) (a ∷ []))
+          (arcs_again g (with_arc g a) g.arcs keeps h.arcs)
+          (both (is_first_arc (with_arc g a) a) true (arc_again g (with_arc g a) a keeps is) refl);
     }

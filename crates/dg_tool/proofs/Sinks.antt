@@ -25,7 +25,7 @@ pub text_of-split : (ls : List (List ℕ)) (i : ℕ) (line : List ℕ) → line 
 text_of-split ls i line is lt =
     let next : i + 1 ≡ suc i = omega arith in
     let head : drop i ls ≡ line ∷ drop (i + 1) ls =
-        drop-cons ls i line lt ∙ ap (λ l. l ∷ drop (suc i) ls) (sym is) ∙ ap (λ k. line ∷ drop k ls) (sym next) in
+    drop-cons ls i line lt ∙ ap (λ l. l ∷ drop (suc i) ls) (sym is) ∙ ap (λ k. line ∷ drop k ls) (sym next) in
     ap text_of (sym (take-append-drop i ls) ∙ ap (λ ms. take i ls ++ ms) head) ∙ text_of-append (take i ls) (line ∷ drop (i + 1) ls)
 
 pub text_of-take : (ls : List (List ℕ)) (i : ℕ) (line : List ℕ) → line ≡ get_or ls i line → i < length ls →
@@ -44,7 +44,7 @@ GotPrefix-line before between after ls i line is lt e p =
     let short : m ≤ length line = omega arith in
     let part : take m (line ++ rest) ≡ take p.0 line = take-append-le m line rest short ∙ take_min p.0 line in
     let whole : take (length front + m) (text_of ls) ≡ front ++ take p.0 line =
-        ap (take (length front + m)) (text_of-split ls i line is lt) ∙ take-append-add front (line ++ rest) m ∙ ap (λ t. front ++ t) part in
+    ap (take (length front + m)) (text_of-split ls i line is lt) ∙ take-append-add front (line ++ rest) m ∙ ap (λ t. front ++ t) part in
     (length front + m, GotAll-append before between after front (take p.0 line) e p.1 ∙ ap (λ t. option_map (λ bs. bs ++ t) before) (sym whole))
 
 -- a slice from a place on is what is left there

@@ -1,5 +1,5 @@
 -- The value of a sum's total, from the values of its sources.
-use Rattle.std.proofs.Common.{◌≡◌, ℕ, zero, suc, ◌+◌, ◌<◌, ◌≤◌, List, [], ◌∷◌, ◌++◌, Bool, true, false, cond, ◌&&◌, ◌||◌, not, eqb, Option, Some, None, map, filter, find, length, refl, sym, ap, ◌∙◌, subst, IsTrue, is_some, option_to_list, true≢false, pos, arith, length-append}
+use Rattle.std.proofs.Common.{◌≡◌, ℕ, zero, suc, ◌<◌, List, [], ◌∷◌, ◌++◌, Bool, true, false, cond, ◌&&◌, ◌||◌, eqb, Option, Some, None, map, filter, find, length, refl, sym, ap, ◌∙◌, subst, IsTrue, is_some, option_to_list, true≢false, pos, arith, length-append}
 use Rattle.std.specs.List.{list_all, list_any}
 use Rattle.std.proofs.lemmas.Bool.{eqb-true}
 use Rattle.std.proofs.lemmas.List.{append-nil}
@@ -12,7 +12,6 @@ use Rattle.dg_base.specs.declared.datum.Datum.{Datum}
 use Rattle.dg_base.specs.declared.datum.Datum.TheVariants as datum
 use Rattle.dg_base.specs.declared.answer.Answer.{Answer}
 use Rattle.dg_base.specs.declared.answer.Answer.TheVariants as answer
-use Rattle.dg_base.specs.declared.answer.Fault.{Fault}
 use Rattle.dg_base.specs.declared.graph.Node.{Node}
 use Rattle.dg_base.specs.declared.graph.Origin.{Origin}
 use Rattle.dg_base.specs.declared.graph.Origin.TheVariants as origin
@@ -23,13 +22,12 @@ use Rattle.dg_base.specs.declared.schema.ArgVal.TheVariants as arg_val
 use Rattle.dg_base.specs.declared.schema.Made.{Made}
 use Rattle.std.specs.Prelude.{Result, Ok, Err, IfOk}
 use Rattle.dg_base.specs.Same.{same_node, same_label}
-use Rattle.dg_base.specs.Graph.{Graph, node_at, value_in, own_of, own_value, explicit_sources}
-use Rattle.dg_base.specs.Chain.{chain, kind_of, kind_by, kind_along}
+use Rattle.dg_base.specs.Graph.{Graph, node_at, value_in, own_of}
+use Rattle.dg_base.specs.Chain.{chain, kind_of, kind_by}
 use Rattle.dg_base.specs.Sources.{sources}
 use Rattle.dg_base.specs.Rule.{rule_of, rule_along, is_defective, own_or, without_own, property_rule, endpoints, endpoints_in, endpoints_of, given_labels}
 use Rattle.dg_base.specs.Value.{value_at, value_within, answer_by, answer_of, is_cycle, faults_of_all, faulted_or}
 use Rattle.dg_base.specs.First.{num, sum_, value, terms, extra, total, first_tables, number_made, sum_of_args}
-use Rattle.dg_flat.specs.Numbered.{IsNumbered}
 use Rattle.dg_flat.proofs.Numbered.{own_kind, kind_of-numbered, chain-numbered, sources-there}
 use Rattle.dg_tool.specs.Play.{is_kind, total_of}
 use Rattle.dg_tool.specs.FirstForm.{IsFirstForm, is_marked, is_first_arc, own_or_zero, number_answer}
@@ -73,7 +71,7 @@ module _ (g : Graph) (h : IsFirstForm g) where
   value_of_source k s is =
       let parts = both_of (eqb s.label.0 1) (is_kind num (kind_of g s.node)) is in
       let same : record { node = s.node; label = value } ≡ s =
-          ap (λ l. let e : Endpoint = record { node = s.node; label = l } in e) (sym (label_known s.label 1 parts.0)) in
+      ap (λ l. let e : Endpoint = record { node = s.node; label = l } in e) (sym (label_known s.label 1 parts.0)) in
       subst (λ (e : Endpoint). value_within (suc k) first_tables g e ≡ number_answer g e) same (value_of_number k s.node parts.1)
 
   values_of_sources : (k : ℕ) (ss : List Endpoint) → list_all (is_number_source g) ss ≡ true →
@@ -102,8 +100,8 @@ module _ (g : Graph) (h : IsFirstForm g) where
       let arc = both_of ((eqb a.input.0 2) && (eqb a.src.label.0 1)) (is_kind num (kind_of g a.src.node)) parts.0 in
       let labels = both_of (eqb a.input.0 2) (eqb a.src.label.0 1) arc.0 in
       sources_one a (feeds n i a) (filter (feeds n i) as_)
-        (ap (λ c. c && is_kind num (kind_of g a.src.node)) labels.1 ∙ arc.1)
-        (sources_all n i as_ parts.1)
+      (ap (λ c. c && is_kind num (kind_of g a.src.node)) labels.1 ∙ arc.1)
+      (sources_all n i as_ parts.1)
 
   and_false : (b : Bool) → b && false ≡ false
   and_false true = refl
@@ -140,7 +138,7 @@ call_total : (g : Graph) (e : Endpoint) (v : Endpoint → Answer) (ss : List End
     answer_by first_tables e v (total_rule ss []) ≡ summed e (map (number_answer g) ss)
 call_total g e v ss same =
     let called : List Answer → List Answer → Answer =
-        λ seen as_. cond (list_any is_cycle seen) answer.Cycle (faulted_or (faults_of_all as_ ++ []) (summed e as_)) in
+    λ seen as_. cond (list_any is_cycle seen) answer.Cycle (faulted_or (faults_of_all as_ ++ []) (summed e as_)) in
     ap (λ xs. called (map v xs) (map v ss)) (append-nil ss)
     ∙ ap (λ as_. called as_ as_) same
     ∙ ap (λ b. cond b answer.Cycle (faulted_or (faults_of_all (map (number_answer g) ss) ++ []) (summed e (map (number_answer g) ss)))) (no_cycle g ss)
@@ -161,7 +159,7 @@ endpoints_found : (g : Graph) (xs : List Node) (n : NodeId) (found : Option Node
 endpoints_found g [] n found is there some = absurd (true≢false (sym there ∙ sym (ap is_some is)))
 endpoints_found g (x ∷ xs) n found is there some =
     endpoints_at g x xs (same_node x.id n) (λ e. some x e)
-      (λ e. endpoints_found g xs n found (sym (ap (λ b. cond b (Some x) (find (λ z. same_node z.id n) xs)) e) ∙ is) there some)
+    (λ e. endpoints_found g xs n found (sym (ap (λ b. cond b (Some x) (find (λ z. same_node z.id n) xs)) e) ∙ is) there some)
 
 node_same : (n m : NodeId) → same_node n m ≡ true → n ≡ m
 node_same n m e = ap (λ i. let node : NodeId = record { 0 = i } in node) (eqb-true n.0 m.0 e)
@@ -169,7 +167,7 @@ node_same n m e = ap (λ i. let node : NodeId = record { 0 = i } in node) (eqb-t
 sum_has_endpoint : (g : Graph) (x : Node) → kind_of g x.id ≡ Some sum_ → 0 < length (endpoints_of first_tables g x)
 sum_has_endpoint g x kind =
     let one : length (endpoints_of first_tables g x) ≡ 1 =
-        ap (λ (o : Option Kind). length (map (λ l. let e : Endpoint = record { node = x.id; label = l } in e) (given_labels first_tables (chain g x.id) o))) kind in
+    ap (λ (o : Option Kind). length (map (λ l. let e : Endpoint = record { node = x.id; label = l } in e) (given_labels first_tables (chain g x.id) o))) kind in
     omega (arith, one)
 
 module _ (g : Graph) (n : NodeId) (h : IsFirstForm g) (is : is_kind sum_ (kind_of g n) ≡ true) where
@@ -183,7 +181,7 @@ module _ (g : Graph) (n : NodeId) (h : IsFirstForm g) (is : is_kind sum_ (kind_o
   sum_rule =
       ap (λ (o : Option Kind). rule_along first_tables g (chain g n) (total_of n) o) kind_is_sum
       ∙ ap (λ b. cond b rule.Defective (total_rule (sources g n terms) (sources g n extra)))
-          (ap is_defective (chain-numbered g n h.numbered) ∙ defective_list (node_at g n) (h.unmarked n))
+      (ap is_defective (chain-numbered g n h.numbered) ∙ defective_list (node_at g n) (h.unmarked n))
       ∙ ap (total_rule (sources g n terms)) (sources-there g n extra h.numbered there ∙ ap (map (λ z. z.src)) (extra_none g h n g.arcs h.arcs))
 
   sources_are_numbers : list_all (is_number_source g) (sources g n terms) ≡ true

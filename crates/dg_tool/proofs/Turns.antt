@@ -24,7 +24,7 @@ module _ (t : Tables) (cs : List Command) (i : ℕ) (c : Command) (is : c ≡ ge
   next_turn =
       let next : i + 1 ≡ suc i = omega arith in
       ap (λ (ds : List Command). lines_from t ds (i + 1) s)
-        (drop-cons cs i c lt ∙ ap (λ (d : Command). d ∷ drop (suc i) cs) (sym is) ∙ ap (λ k. c ∷ drop k cs) (sym next))
+      (drop-cons cs i c lt ∙ ap (λ (d : Command). d ∷ drop (suc i) cs) (sym is) ∙ ap (λ k. c ∷ drop k cs) (sym next))
 
   -- a turn adds its line
   pub turn_more : (ls : List (List ℕ)) (now : State) (text : List ℕ) → turn_of t s c ≡ Some (record { state = now; text = text }) →

@@ -1,5 +1,5 @@
 -- What the graph of a script of the first form keeps.
-use Rattle.std.specs.Prelude.{◌≡◌, ℕ, ◌+◌, List, [], ◌∷◌, Bool, true, false, cond, ◌&&◌, ◌==◌, Option, Some, None, IsTrue, pos, length, refl}
+use Rattle.std.specs.Prelude.{◌≡◌, ℕ, List, Bool, true, false, ◌&&◌, ◌==◌, Option, Some, None, pos, refl}
 use Rattle.std.specs.List.{list_all}
 use Rattle.std.specs.Coded.{Coded, code_by, coded×, coded_list, coded_ℕ}
 use Rattle.dg_base.specs.declared.ids.NodeId.{NodeId}
@@ -12,7 +12,7 @@ use Rattle.dg_base.specs.declared.answer.Answer.TheVariants as answer
 use Rattle.dg_base.specs.declared.graph.Node.{Node}
 use Rattle.dg_base.specs.Graph.{Graph, node_at, own_value}
 use Rattle.dg_base.specs.Chain.{kind_of}
-use Rattle.dg_base.specs.First.{num, value, terms}
+use Rattle.dg_base.specs.First.{num, value}
 use Rattle.dg_flat.specs.Code.{graph_code}
 use Rattle.dg_flat.specs.Numbered.{IsNumbered}
 use Rattle.dg_tool.specs.declared.bound.Bound.{Bound}

@@ -1,6 +1,6 @@
 -- The form of a script: which bytes are which commands. A line ends with a line feed, which the last
 -- one may lack. A line is three words with one blank between two of them.
-use Rattle.std.specs.Prelude.{ℕ, ◌+◌, ◌-◌, ◌*◌, List, [], ◌∷◌, ◌++◌, Bool, cond, ◌&&◌, ◌||◌, ◌==◌, Option, Some, None, length, take, drop, nat_le, codes, map}
+use Rattle.std.specs.Prelude.{ℕ, ◌+◌, ◌-◌, ◌*◌, List, [], ◌∷◌, Bool, cond, ◌&&◌, ◌||◌, ◌==◌, Option, Some, None, length, take, drop, nat_le, codes}
 use Rattle.std.specs.List.{slice_split, list_all}
 use Rattle.std.specs.Cmp.Lexicographic.{pointwise}
 use Rattle.dg_base.specs.declared.ids.Kind.{Kind}
@@ -83,9 +83,9 @@ ask_named (Some sum) = Some (Ask sum)
 abbrev pub command_of : List ℕ → List ℕ → List ℕ → Option Command
 command_of verb second third =
     cond (is_word verb (codes "make")) (make_named (kind_named second) (name_of third))
-      (cond (is_word verb (codes "set")) (set_named (name_before (codes ".value") second) third)
-        (cond (is_word verb (codes "connect")) (connect_named (name_before (codes ".value") second) (name_before (codes ".terms") third))
-          (cond (is_word verb (codes "ask") && is_word second (codes "now")) (ask_named (name_before (codes ".total") third)) None)))
+    (cond (is_word verb (codes "set")) (set_named (name_before (codes ".value") second) third)
+    (cond (is_word verb (codes "connect")) (connect_named (name_before (codes ".value") second) (name_before (codes ".terms") third))
+    (cond (is_word verb (codes "ask") && is_word second (codes "now")) (ask_named (name_before (codes ".total") third)) None)))
 
 abbrev pub command_in_words : List (List ℕ) → Option Command
 command_in_words (verb ∷ second ∷ third ∷ []) = command_of verb second third

@@ -1,8 +1,7 @@
 -- What the tool does for a tree and the words of its command line: its status and the lines that it
 -- prints. It has no cache and no worker.
-use Rattle.std.specs.Prelude.{ℕ, List, [], ◌∷◌, ◌++◌, Bool, true, false, cond, not, ◌&&◌, ◌||◌, ◌==◌, Option, Some, None, codes, length}
+use Rattle.std.specs.Prelude.{ℕ, List, [], ◌∷◌, ◌++◌, Bool, false, cond, not, ◌&&◌, ◌==◌, Option, Some, None, codes, length}
 use Rattle.std.specs.List.{slice_split, list_all}
-use Rattle.std.specs.Cmp.Lexicographic.{pointwise}
 use Rattle.dg_files.specs.Tree.{Tree, bytes_at}
 use Rattle.dg_base.specs.Tables.{Tables}
 use Rattle.dg_tool.specs.declared.output.Out.{Out}
@@ -28,7 +27,7 @@ is_project_path path = are_segments (slice_split is_slash path)
 abbrev pub script_named : List (List ℕ) → Option (List ℕ)
 script_named (task ∷ script ∷ option ∷ number ∷ []) =
     cond ((is_word task (codes "run") && is_project_path script) && (is_word option (codes "--workers") && is_word number (codes "0")))
-      (Some script) None
+    (Some script) None
 script_named _ = None
 
 -- the one line of an error

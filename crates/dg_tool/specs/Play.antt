@@ -1,5 +1,5 @@
 -- The play of a script: its commands one after another, each with the text that it prints.
-use Rattle.std.specs.Prelude.{ℕ, suc, ◌+◌, ◌*◌, List, [], ◌∷◌, ◌++◌, Bool, true, false, cond, ◌==◌, Option, Some, None, Result, Ok, Err, codes, pos, is_some, length}
+use Rattle.std.specs.Prelude.{ℕ, ◌+◌, ◌*◌, List, [], ◌∷◌, ◌++◌, Bool, false, cond, ◌==◌, Option, Some, None, Result, Ok, Err, codes, pos, is_some}
 use Rattle.std.specs.Cmp.Lexicographic.{pointwise}
 use Rattle.dg_base.specs.declared.ids.NodeId.{NodeId}
 use Rattle.dg_base.specs.declared.ids.Kind.{Kind}

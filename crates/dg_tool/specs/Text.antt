@@ -1,5 +1,5 @@
 -- The printed texts.
-use Rattle.std.specs.Prelude.{ℕ, List, [], ◌∷◌, ◌++◌, Bool, cond, codes, ◌==◌}
+use Rattle.std.specs.Prelude.{ℕ, List, [], ◌∷◌, ◌++◌, cond, codes, ◌==◌}
 use Rattle.std.specs.Fmt.{decimal}
 use Rattle.dg_base.specs.declared.ids.Label.{Label}
 use Rattle.dg_base.specs.declared.ids.Endpoint.{Endpoint}

@@ -2,20 +2,30 @@
 ghost use Rattle.std.specs.Prelude.{◌≡◌, ℤ, ◌+ℤ◌, ◌≤ℤ◌, pos, IfOk, OnOk, Some, None};
 ghost use Rattle.dg_base.specs.First.{number_in, number_answered, sum_answered, number_of_arg, sum_of_args, is_in_range, number_made};
 
-use dg_base::{Answer, ArgSpec, ArgVal, Datum, FaultCode, Held, Kind, Label, Made, Role, Schema, Steps, Ty};
+use dg_base::{
+    Answer, ArgSpec, ArgVal, Datum, FaultCode, Held, Kind, Label, Made, Role, Schema, Steps, Ty,
+};
 use std::alloc::{AllocError, Global};
 use std::sync::ledger::Ledger;
 
 pub(crate) const NUM: Kind = Kind(1);
+
 pub(crate) const SUM: Kind = Kind(2);
+
 pub(crate) const VALUE: Label = Label(1);
+
 pub(crate) const TERMS: Label = Label(2);
+
 pub(crate) const TOTAL: Label = Label(4);
 
 static NUM_LABELS: [Label; 1] = [Label(1)];
+
 static SUM_LABELS: [Label; 3] = [Label(2), Label(3), Label(4)];
+
 static NO_LABELS: [Label; 0] = [];
+
 static TOTAL_ARGS: [ArgSpec; 2] = [ArgSpec::Input(Label(2)), ArgSpec::Input(Label(3))];
+
 static NO_ARGS: [ArgSpec; 0] = [];
 
 /// A Num has the property `value`. A Sum has the array `terms`, the input `extra` with the substitute
@@ -41,9 +51,22 @@ impl Schema for First {
     fn role(kind: Kind, label: Label) -> Role {
         match (kind.0, label.0) {
             (1, 1) => Role::Property(Ty::Number),
-            (2, 2) => Role::Input { ty: Ty::Number, array: true, cascade: false, substitute: false },
-            (2, 3) => Role::Input { ty: Ty::Number, array: false, cascade: false, substitute: true },
-            (2, 4) => Role::Output { ty: Ty::Number, cached: true },
+            (2, 2) => Role::Input {
+                ty: Ty::Number,
+                array: true,
+                cascade: false,
+                substitute: false,
+            },
+            (2, 3) => Role::Input {
+                ty: Ty::Number,
+                array: false,
+                cascade: false,
+                substitute: true,
+            },
+            (2, 4) => Role::Output {
+                ty: Ty::Number,
+                cached: true,
+            },
             _ => Role::Nothing,
         }
     }
@@ -68,7 +91,13 @@ impl Schema for First {
         Ok(Datum::Dec(0))
     }
 
-    fn produce<L: Ledger>(_alloc: Global, _kind: Kind, _label: Label, args: &[ArgVal], steps: &mut Steps<L>) -> Result<Made, AllocError> {
+    fn produce<L: Ledger>(
+        _alloc: Global,
+        _kind: Kind,
+        _label: Label,
+        args: &[ArgVal],
+        steps: &mut Steps<L>,
+    ) -> Result<Made, AllocError> {
         steps.tick();
         Ok(made_of(sum_of_args(args)?))
     }

@@ -14,6 +14,4 @@ mod text;
 mod total;
 mod words;
 
-
 pub use run::{Ended, run_alone};
-

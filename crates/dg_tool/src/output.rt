@@ -9,8 +9,7 @@ ghost use Rattle.dg_tool.specs.Play.{lines_of_script, lines_from, start};
 use crate::command::Command;
 use crate::play::Play;
 use crate::reading::{self, MAX_SCRIPT};
-use crate::text;
-use crate::words;
+use crate::{text, words};
 use dg_base::Steps;
 use dg_files::{Bytes, Files, Got, Refusal};
 use std::alloc::{AllocError, Global};
@@ -67,7 +66,11 @@ fn played<L: Ledger>(alloc: Global, bytes: &[u8], steps: &mut Steps<L>) -> Resul
     }
 }
 
-fn lines_of_script<L: Ledger>(alloc: Global, bytes: &[u8], steps: &mut Steps<L>) -> Result<Option<Vec<Bytes>>, AllocError>
+fn lines_of_script<L: Ledger>(
+    alloc: Global,
+    bytes: &[u8],
+    steps: &mut Steps<L>,
+) -> Result<Option<Vec<Bytes>>, AllocError>
     ensures { IfOk result (λ r. option_map (λ v. v.items) r ≡ lines_of_script first_tables bytes.now) }
 {
     match reading::read_script(alloc, bytes)? {
@@ -77,7 +80,11 @@ fn lines_of_script<L: Ledger>(alloc: Global, bytes: &[u8], steps: &mut Steps<L>)
 }
 
 /// The lines of a script's commands, or None where a name is out of the form.
-fn lines_of<L: Ledger>(alloc: Global, commands: &[Command], steps: &mut Steps<L>) -> Result<Option<Vec<Bytes>>, AllocError>
+fn lines_of<L: Ledger>(
+    alloc: Global,
+    commands: &[Command],
+    steps: &mut Steps<L>,
+) -> Result<Option<Vec<Bytes>>, AllocError>
     ensures { IfOk result (λ r. option_map (λ v. v.items) r ≡ lines_from first_tables commands.now 1 start) }
 {
     let mut play = Play::new(alloc);

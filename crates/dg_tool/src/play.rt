@@ -14,8 +14,7 @@ ghost use Rattle.dg_tool.specs.FirstForm.{TurnIs, number_answer, own_or_zero};
 use crate::bound::{Bound, bound_to};
 use crate::command::{Command, Name};
 use crate::first::{First, NUM, SUM, TERMS, TOTAL, VALUE};
-use crate::text;
-use crate::total;
+use crate::{text, total};
 use dg_base::{ArcRec, Datum, Endpoint, Kind, NodeId, Steps, TxCode};
 use dg_files::Bytes;
 use dg_flat::Graph;
@@ -25,6 +24,7 @@ use std::sync::ledger::Ledger;
 
 /// The most node ids, and the most arcs.
 pub const MAX_NODES: usize = 262144;
+
 pub const MAX_ARCS: usize = 1048576;
 
 /// A graph, and the names of its nodes.
@@ -62,7 +62,11 @@ impl Play {
     }
 
     /// Plays a command, and answers its text. None where the script is out of the form.
-    pub(crate) fn turn<L: Ledger>(&mut self, command: &Command, steps: &mut Steps<L>) -> Result<Option<Bytes>, AllocError>
+    pub(crate) fn turn<L: Ledger>(
+        &mut self,
+        command: &Command,
+        steps: &mut Steps<L>,
+    ) -> Result<Option<Bytes>, AllocError>
         ensures { IfOk result (TurnIs (turn_of first_tables self.old command.now) self.new) }
     {
         match command {
@@ -112,7 +116,10 @@ impl Play {
             return Ok(None);
         };
         let arc = ArcRec {
-            src: Endpoint { node: number, label: VALUE },
+            src: Endpoint {
+                node: number,
+                label: VALUE,
+            },
             node: sum,
             input: TERMS,
         };
@@ -134,7 +141,10 @@ impl Play {
             return Ok(None);
         };
         let made = total::total(self.alloc, &self.graph, sum, steps)?;
-        let at = Endpoint { node: sum, label: TOTAL };
+        let at = Endpoint {
+            node: sum,
+            label: TOTAL,
+        };
         Ok(Some(text::made(self.alloc, at, &made)?))
     }
 

@@ -10,6 +10,7 @@ use std::alloc::{AllocError, Global};
 
 /// The most bytes of a script, and the most lines.
 pub const MAX_SCRIPT: usize = 1048576;
+
 pub const MAX_LINES: usize = 65536;
 
 /// The commands of a script, or None where a line is none, or the script is too long.
@@ -47,7 +48,12 @@ fn read_command(alloc: Global, line: &[u8]) -> Result<Option<Command>, AllocErro
     }
 }
 
-fn command_of(alloc: Global, verb: &[u8], second: &[u8], third: &[u8]) -> Result<Option<Command>, AllocError>
+fn command_of(
+    alloc: Global,
+    verb: &[u8],
+    second: &[u8],
+    third: &[u8],
+) -> Result<Option<Command>, AllocError>
     ensures { IfOk result (λ c. c ≡ command_of verb.now second.now third.now) }
 {
     if is_word(verb, b"make") {

@@ -5,8 +5,7 @@ ghost use Rattle.dg_files.specs.Outcome.{Rose};
 ghost use Rattle.dg_tool.specs.Out.{out_of, script_named};
 ghost use Rattle.dg_tool.specs.Statement.{EndsAs, HasCauses, IsComplete};
 
-use crate::output;
-use crate::printing;
+use crate::{output, printing};
 use dg_base::Steps;
 use dg_files::{Files, Refusal, Sink};
 use std::alloc::Global;
@@ -37,7 +36,7 @@ pub fn run_alone<F: Files, S: Sink, L: Ledger>(
     ensures causes { HasCauses result.status (F.faults files.old) (F.faults files.new) (S.faults out.old) (S.faults out.new) }
     ensures complete { IfSome (F.tree files.old)
         (λ t. IsComplete (out_of first_tables t (map string_bytes words.now)) result.status
-            (F.faults files.old) (F.faults files.new) (S.faults out.old) (S.faults out.new)) }
+        (F.faults files.old) (F.faults files.new) (S.faults out.old) (S.faults out.new)) }
     ensures tree { F.tree files.new ≡ F.tree files.old }
 
     // Also over files that tell nothing, the words alone decide on their status.

@@ -48,8 +48,13 @@ fn value(alloc: Global, datum: &Datum) -> Result<Bytes, AllocError>
     ensures { IfOk result (λ t. t ≡ value_text datum.now) }
 {
     match datum {
-        Datum::Dec(number) => Bytes::from_slice(alloc, dg_decimal::print(*number).as_str().as_bytes()),
-        Datum::Nil | Datum::Flag(_) | Datum::Text(_) | Datum::Vec3(_) | Datum::Quat(_) => Ok(Bytes::new(alloc)),
+        Datum::Dec(number) => Bytes::from_slice(
+            alloc,
+            dg_decimal::print(*number).as_str().as_bytes(),
+        ),
+        Datum::Nil | Datum::Flag(_) | Datum::Text(_) | Datum::Vec3(_) | Datum::Quat(_) => Ok(
+            Bytes::new(alloc),
+        ),
         Datum::Prop(_) | Datum::List(_) | Datum::Rec(_) => Ok(Bytes::new(alloc)),
     }
 }

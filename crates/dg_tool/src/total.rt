@@ -13,7 +13,12 @@ use std::alloc::{AllocError, Global};
 use std::sync::ledger::Ledger;
 
 /// What the production of a sum's total gives. In time linear in the arcs of the graph.
-pub(crate) fn total<L: Ledger>(alloc: Global, graph: &Graph<First>, sum: NodeId, steps: &mut Steps<L>) -> Result<Made, AllocError>
+pub(crate) fn total<L: Ledger>(
+    alloc: Global,
+    graph: &Graph<First>,
+    sum: NodeId,
+    steps: &mut Steps<L>,
+) -> Result<Made, AllocError>
     requires form { IsFirstForm graph.now }
     requires kind { is_kind sum_ (kind_of graph.now sum) ≡ true }
     ensures { IfOk result (λ m. answer_of (total_of sum) m ≡ value_at first_tables graph.now (total_of sum)) }
@@ -25,7 +30,11 @@ pub(crate) fn total<L: Ledger>(alloc: Global, graph: &Graph<First>, sum: NodeId,
 }
 
 /// The answers of numbers, in order.
-fn answers_of(alloc: Global, graph: &Graph<First>, sources: &[Endpoint]) -> Result<Helds, AllocError>
+fn answers_of(
+    alloc: Global,
+    graph: &Graph<First>,
+    sources: &[Endpoint],
+) -> Result<Helds, AllocError>
     ensures { IfOk result (λ all. all ≡ map (number_answer graph.now) sources.now) }
 {
     let mut all = Helds::new(alloc);

@@ -15,7 +15,10 @@ pub(crate) fn script_of(alloc: Global, words: &[String]) -> Result<Option<&str>,
     match words {
         [task, script, option, number] => {
             let path = is_project_path(alloc, script.as_bytes())?;
-            let named = task.as_str() == "run" && path && option.as_str() == "--workers" && number.as_str() == "0";
+            let named = task.as_str() == "run"
+                && path
+                && option.as_str() == "--workers"
+                && number.as_str() == "0";
             Ok(if named { Some(script.as_str()) } else { None })
         }
         _ => Ok(None),
@@ -41,7 +44,9 @@ fn are_segments(parts: &[&[u8]]) -> bool
     ensures { result ≡ are_segments (map (λ s. s.now) parts.now) }
 {
     match parts {
-        [before, segments @ ..] => before.is_empty() && !segments.is_empty() && all_segments(segments),
+        [before, segments @ ..] => before.is_empty()
+            && !segments.is_empty()
+            && all_segments(segments),
         [] => false,
     }
 }

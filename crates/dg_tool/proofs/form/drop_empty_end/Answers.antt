@@ -1,4 +1,4 @@
-use Rattle.std.proofs.Common.{◌≡◌, ◌∙◌, ap, sym, map}
+use Rattle.std.proofs.Common.{◌∙◌, ap, sym, map}
 use Rattle.dg_tool.proofs.Lines.{without_empty_end-empty, without_empty_end-kept}
 use Rattle.dg_tool.proofs.form.drop_empty_end.Goals as goal
 

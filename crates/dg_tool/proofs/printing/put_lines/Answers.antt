@@ -9,20 +9,20 @@ pub returns-in_err-put_all-clause-err : goal.returns-in_err-put_all-clause-err
 returns-in_err-put_all-clause-err g c =
     let line = c.as_slice.result.now in
     let is : line ≡ get_or c.args.lines.now c.loop-line.line-index line =
-        c.as_slice.ensures ∙ c.line-item.is ∙ ap (get_or c.args.lines.now c.loop-line.line-index) (sym c.as_slice.ensures) in
+    c.as_slice.ensures ∙ c.line-item.is ∙ ap (get_or c.args.lines.now c.loop-line.line-index) (sym c.as_slice.ensures) in
     let part : GotPrefix (g.S.Sink.bytes c.loop-line.out) (g.S.Sink.bytes c.put_all.new.out) line =
-        (c.in_err-put_all.ensures.err.0, c.in_err-put_all.ensures.err.1) in
+    (c.in_err-put_all.ensures.err.0, c.in_err-put_all.ensures.err.1) in
     let all = GotPrefix-line (g.S.Sink.bytes c.args.out.now) (g.S.Sink.bytes c.loop-line.out) (g.S.Sink.bytes c.put_all.new.out) c.args.lines.now
-        c.loop-line.line-index line is c.loop-line-test.true c.loop-line.invariant.0 part in
+    c.loop-line.line-index line is c.loop-line-test.true c.loop-line.invariant.0 part in
     OnErr-always c.from_residual.result all
 
 pub loop-line-preserved : goal.loop-line-preserved
 loop-line-preserved g c =
     let line = c.line-item.result in (
       GotAll-append (g.S.Sink.bytes c.args.out.now) (g.S.Sink.bytes c.loop-line.out) (g.S.Sink.bytes c.put_all.new.out) _ _
-        c.loop-line.invariant.0 c.in_ok-put_all.ensures.ok
-      ∙ ap (λ t. option_map (λ bs. bs ++ t) (g.S.Sink.bytes c.args.out.now))
+          c.loop-line.invariant.0 c.in_ok-put_all.ensures.ok
+          ∙ ap (λ t. option_map (λ bs. bs ++ t) (g.S.Sink.bytes c.args.out.now))
           (ap (λ l. text_of (take c.loop-line.line-index c.args.lines.now) ++ l) c.as_slice.ensures
-            ∙ sym (text_of-take c.args.lines.now c.loop-line.line-index line c.line-item.is c.loop-line-test.true)),
+          ∙ sym (text_of-take c.args.lines.now c.loop-line.line-index line c.line-item.is c.loop-line-test.true)),
       le_trans c.loop-line.invariant.1 c.in_ok-put_all.ensures.cause.never_falls,
     )

@@ -12,5 +12,5 @@ set_value-requires c =
 pub invariant_of-self-2 : goal.invariant_of-self-2
 invariant_of-self-2 c =
     let there : IsTrue (has_node c.self.inside.graph c.in-Some.node) =
-        subst (λ (g : Graph). IsTrue (has_node g c.in-Some.node)) (sym (ap (λ (s : State). s.graph) c.self.view_is)) c.in-Some.ensures.there in
+    subst (λ (g : Graph). IsTrue (has_node g c.in-Some.node)) (sym (ap (λ (s : State). s.graph) c.self.view_is)) c.in-Some.ensures.there in
     subst IsFirstForm (sym c.in_ok-set_value.ensures.ok) (IsFirstForm-with_value c.self.inside.graph c.in-Some.node _ c.self.invariant there refl)
