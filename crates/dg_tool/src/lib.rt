@@ -13,5 +13,6 @@ mod run;
 mod text;
 mod total;
 mod words;
+pub mod worked;
 
 pub use run::{Ended, run_alone};
