@@ -4,3 +4,5 @@ pub mod Sinks
 pub mod FirstForms
 pub mod Totals
 pub mod Turns
+pub mod Splits
+pub mod Spelling

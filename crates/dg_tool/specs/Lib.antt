@@ -7,3 +7,4 @@ pub mod Statement
 pub mod FirstForm
 pub mod FirstLaws
 pub mod Worked
+pub mod Grammar

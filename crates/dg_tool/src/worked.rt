@@ -8,12 +8,10 @@ ghost use Rattle.dg_tool.specs.Worked.{adding, added, unmade};
 /// Two numbers and their sum, line by line.
 pub fn adds()
     ensures { lines_of_script first_tables adding ≡ Some added }
-{
-}
+{}
 
 /// An empty script prints nothing. A script that uses a name before it is made is out of the form.
 pub fn reads()
     ensures empty { lines_of_script first_tables [] ≡ Some [] }
     ensures unmade { lines_of_script first_tables unmade ≡ None }
-{
-}
+{}
