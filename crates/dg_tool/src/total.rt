@@ -6,8 +6,8 @@ ghost use Rattle.dg_base.specs.Value.{value_at, answer_of};
 ghost use Rattle.dg_tool.specs.FirstForm.{IsFirstForm, number_answer};
 ghost use Rattle.dg_tool.specs.Play.{is_kind, total_of};
 
-use crate::first::{First, SUM, TERMS, TOTAL};
-use dg_base::{Answer, ArgVal, Datum, Endpoint, Held, Helds, Made, NodeId, Schema, Steps};
+use crate::first::{First, NUM, SUM, TERMS, TOTAL, VALUE};
+use dg_base::{Answer, ArgVal, Endpoint, Held, Helds, Made, NodeId, Schema, Steps};
 use dg_flat::Graph;
 use std::alloc::{AllocError, Global};
 use std::sync::ledger::Ledger;
@@ -49,7 +49,7 @@ fn answer_of(alloc: Global, graph: &Graph<First>, source: Endpoint) -> Result<He
 {
     let value = match graph.property(source.node, source.label) {
         Some(value) => value.copy(alloc)?,
-        None => Datum::Dec(0),
+        None => First::default(alloc, NUM, VALUE)?,
     };
     Held::of(alloc, Answer::Good(value))
 }
