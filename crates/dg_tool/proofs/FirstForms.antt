@@ -19,7 +19,7 @@ use Rattle.dg_flat.proofs.Numbered.{own_kind, kind_of-numbered}
 use Rattle.dg_flat.proofs.AfterChanges.{IsNumbered-with_node, IsNumbered-with_value, IsNumbered-with_arc, node_at-with_node, kind_of-with_node_kept, node_at-with_value, kind_of-with_value, own_value-with_value_same, own_value-with_value_other, kind_of-with_arc}
 use Rattle.dg_tool.specs.Play.{is_kind}
 use Rattle.dg_tool.specs.FirstForm.{IsFirstForm, is_marked, is_number_or_none, is_first_arc}
-use Rattle.dg_tool.proofs.Numbers.{both_of}
+use Rattle.dg_tool.proofs.Numbers.{both_of, both, list_all-weaker}
 
 -- a node of a kind is there
 there_at : (k : Kind) (o : Option Node) → is_kind k (own_kind o) ≡ true → is_some o ≡ true
@@ -28,15 +28,6 @@ there_at k (Some x) h = refl
 
 pub has_node-of_kind : (g : Graph) (k : Kind) (n : NodeId) → IsNumbered g → is_kind k (kind_of g n) ≡ true → IsTrue (has_node g n)
 has_node-of_kind g k n h is = there_at k (node_at g n) (sym (ap (is_kind k) (kind_of-numbered g n h)) ∙ is)
-
-both : (a b : Bool) → a ≡ true → b ≡ true → a && b ≡ true
-both a b e f = ap (λ c. c && b) e ∙ f
-
-list_all-weaker : {X : Type 0} (p q : X → Bool) → ((x : X) → p x ≡ true → q x ≡ true) → (xs : List X) → list_all p xs ≡ true → list_all q xs ≡ true
-list_all-weaker p q h [] all = refl
-list_all-weaker p q h (x ∷ xs) all =
-    let parts = both_of (p x) (list_all p xs) all in
-    both (q x) (list_all q xs) (h x parts.0) (list_all-weaker p q h xs parts.1)
 
 -- the arcs stay of the form where the kinds of their sources stay
 arc_again : (g now : Graph) (a : ArcRec) →

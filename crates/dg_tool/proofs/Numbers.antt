@@ -1,5 +1,5 @@
 -- Numbers of at most nine digits.
-use Rattle.std.proofs.Common.{◌≡◌, ℕ, suc, ◌+◌, ◌*◌, ◌-◌, ◌^◌, ◌<◌, ◌≤◌, Bool, true, false, ◌&&◌, List, length, get_or, leb, arith, refl, sym, ap, ◌∙◌, true≢false, pow-suc}
+use Rattle.std.proofs.Common.{◌≡◌, ℕ, suc, ◌+◌, ◌*◌, ◌-◌, ◌^◌, ◌<◌, ◌≤◌, Bool, true, false, ◌&&◌, List, [], ◌∷◌, length, get_or, leb, arith, refl, sym, ap, ◌∙◌, true≢false, pow-suc}
 use Rattle.std.proofs.lemmas.Bool.Decides.{nat_tests}
 use Rattle.std.proofs.lemmas.List.Folds.{list_all_at}
 use Rattle.std.proofs.Math.Nat.{pow-le-pow_right}
@@ -9,6 +9,16 @@ use Rattle.dg_tool.specs.Form.{is_digit, is_number}
 pub both_of : (a b : Bool) → a && b ≡ true → (a ≡ true) × (b ≡ true)
 both_of true b e = (refl, e)
 both_of false b e = absurd (true≢false (sym e))
+
+pub both : (a b : Bool) → a ≡ true → b ≡ true → a && b ≡ true
+both a b e f = ap (λ c. c && b) e ∙ f
+
+-- what passes a test passes a weaker one
+pub list_all-weaker : {X : Type 0} (p q : X → Bool) → ((x : X) → p x ≡ true → q x ≡ true) → (xs : List X) → list_all p xs ≡ true → list_all q xs ≡ true
+list_all-weaker p q h [] all = refl
+list_all-weaker p q h (x ∷ xs) all =
+    let parts = both_of (p x) (list_all p xs) all in
+    both (q x) (list_all q xs) (h x parts.0) (list_all-weaker p q h xs parts.1)
 
 passes_or : {X : Type 0} (p : X → Bool) (xs : List X) (i : ℕ) (d : X) (b : Bool) → p (get_or xs i d) ≡ b →
     i < length xs → list_all p xs ≡ true → b ≡ true

@@ -8,7 +8,7 @@ use Rattle.std.proofs.lemmas.List.Folds.{list_all-append}
 use Rattle.std.proofs.lemmas.List.Splits.{slice_split_at, slice_split_none, length-slice_split}
 use Rattle.dg_tool.specs.Form.{is_blank, is_letter, is_digit, is_name, is_number, words_in}
 use Rattle.dg_tool.specs.Grammar.{IsThree}
-use Rattle.dg_tool.proofs.Numbers.{both_of, list_all-get_or}
+use Rattle.dg_tool.proofs.Numbers.{both_of, list_all-get_or, list_all-weaker}
 
 -- texts are the same exactly where the test says so
 pub same_text : (xs ys : List ℕ) → pointwise eqb xs ys ≡ true → xs ≡ ys
@@ -110,12 +110,6 @@ words_of_three a b c line sa sb sc three =
 pub solid-append : (xs ys : List ℕ) → is_solid xs ≡ true → is_solid ys ≡ true → is_solid (xs ++ ys) ≡ true
 solid-append xs ys e f = list_all-append (λ b. not (is_blank b)) xs ys ∙ ap (λ b. b && is_solid ys) e ∙ f
 
-list_all-through : (p q : ℕ → Bool) → ((x : ℕ) → p x ≡ true → q x ≡ true) → (xs : List ℕ) → list_all p xs ≡ true → list_all q xs ≡ true
-list_all-through p q h [] all = refl
-list_all-through p q h (x ∷ xs) all =
-    let parts = both_of (p x) (list_all p xs) all in
-    ap (λ b. b && list_all q xs) (h x parts.0) ∙ list_all-through p q h xs parts.1
-
 above_solid : (b : ℕ) → 33 ≤ b → not (is_blank b) ≡ true
 above_solid b le =
     let one : eqb b 32 ≡ false = grind (arith, nat_tests) in
@@ -130,8 +124,8 @@ digit_solid b e = let low = both_of (leb 48 b) (leb b 57) e in let le : 48 ≤ b
 
 pub name_solid : (xs : List ℕ) → is_name xs ≡ true → is_solid xs ≡ true
 name_solid xs e =
-    list_all-through is_letter (λ b. not (is_blank b)) letter_solid xs (both_of (leb 1 (length xs) && leb (length xs) 16) (list_all is_letter xs) e).1
+    list_all-weaker is_letter (λ b. not (is_blank b)) letter_solid xs (both_of (leb 1 (length xs) && leb (length xs) 16) (list_all is_letter xs) e).1
 
 pub number_solid : (xs : List ℕ) → is_number xs ≡ true → is_solid xs ≡ true
 number_solid xs e =
-    list_all-through is_digit (λ b. not (is_blank b)) digit_solid xs (both_of (leb 1 (length xs) && leb (length xs) 9) (list_all is_digit xs) e).1
+    list_all-weaker is_digit (λ b. not (is_blank b)) digit_solid xs (both_of (leb 1 (length xs) && leb (length xs) 9) (list_all is_digit xs) e).1
