@@ -4,3 +4,9 @@ pub mod Sinks
 pub mod FirstForms
 pub mod Totals
 pub mod Turns
+pub mod SumNames
+pub mod SumStates
+pub mod SumArcs
+pub mod SumSteps
+pub mod SumTurns
+pub mod SumLines

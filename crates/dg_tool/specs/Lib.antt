@@ -6,3 +6,4 @@ pub mod Printed
 pub mod Statement
 pub mod FirstForm
 pub mod FirstLaws
+pub mod Sums

@@ -5,6 +5,7 @@ mod bound;
 mod command;
 mod first;
 mod form;
+pub mod law;
 mod output;
 mod play;
 mod printing;
