@@ -6,3 +6,9 @@ pub mod Totals
 pub mod Turns
 pub mod Splits
 pub mod Spelling
+pub mod SumNames
+pub mod SumStates
+pub mod SumArcs
+pub mod SumSteps
+pub mod SumTurns
+pub mod SumLines

@@ -8,3 +8,4 @@ pub mod FirstForm
 pub mod FirstLaws
 pub mod Worked
 pub mod Grammar
+pub mod Sums

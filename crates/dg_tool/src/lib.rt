@@ -6,8 +6,8 @@
 //!
 //! In reading order: `words` reads the command line; `form` and `reading` the commands of a script;
 //! `bound` has its names, `first` the schema, `total` the value of a sum, and `play` a command's turn;
-//! `text` makes lines, `output` all of them, `printing` puts them, and `run` is the top call. `grammar`
-//! and `worked` state laws of the definitions.
+//! `text` makes lines, `output` all of them, `printing` puts them, and `run` is the top call. `grammar`,
+//! `law` and `worked` state laws of the definitions.
 #![tactic(auto)]
 
 mod bound;
@@ -15,6 +15,7 @@ mod command;
 mod first;
 mod form;
 pub mod grammar;
+pub mod law;
 mod output;
 mod play;
 mod printing;
