@@ -21,6 +21,8 @@ mod play;
 mod printing;
 mod reading;
 mod run;
+#[cfg(test)]
+mod tests;
 mod text;
 mod total;
 mod words;

@@ -31,6 +31,7 @@ pub(crate) fn output_of<F: Files, L: Ledger>(
 ) -> Result<Out, Refusal>
     ensures told { IfOk result (λ o. IfSome (F.tree files.old) (λ t. o ≡ out_of first_tables t (map string_bytes words.now))) }
     ensures usage { IfOk result (λ o. o.status ≡ 1 → script_named (map string_bytes words.now) ≡ None) }
+    ensures untouched { script_named (map string_bytes words.now) ≡ None → files.new ≡ files.old }
     ensures status { IfOk result (λ o. o.status ≤ 3) }
     ensures tree { F.tree files.new ≡ F.tree files.old }
     ensures cause { HasCause (F.faults files.old) (F.faults files.new) result }

@@ -39,7 +39,8 @@ pub fn run_alone<F: Files, S: Sink, L: Ledger>(
         (F.faults files.old) (F.faults files.new) (S.faults out.old) (S.faults out.new)) }
     ensures tree { F.tree files.new ≡ F.tree files.old }
 
-    // Also over files that tell nothing, the words alone decide on their status.
+    // Also over files that tell nothing, the words alone decide on their status, before a file is read.
+    ensures untouched { script_named (map string_bytes words.now) ≡ None → files.new ≡ files.old }
     ensures usage { result.status ≡ 1 → script_named (map string_bytes words.now) ≡ None }
     ensures range { result.status ≤ 6 }
 {
