@@ -3,6 +3,7 @@ pub mod Heights
 pub mod Sorted
 pub mod Splits
 pub mod Puts
+pub mod Takes
 pub mod Shapes
 pub mod Orders
 pub mod Places

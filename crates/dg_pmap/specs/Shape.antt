@@ -1,6 +1,7 @@
 -- What a tree of chunks holds, and when it is balanced.
-use Rattle.std.specs.Prelude.{◌≡◌, ℕ, ◌+◌, ◌<◌, ◌≤◌, max, Option, Some, None, List, [], ◌++◌, length}
+use Rattle.std.specs.Prelude.{◌≡◌, ℕ, ◌+◌, ◌<◌, ◌≤◌, Bool, max, Option, Some, None, List, [], ◌++◌, length}
 use Rattle.std.specs.Arc.{arc_value}
+use Rattle.std.specs.Map.{remove_entry}
 use Rattle.std.specs.declared.sync.Arc.{Arc}
 use Rattle.std.specs.declared.alloc.Global.{Global}
 use Rattle.dg_pmap.specs.declared.tree.Body.{Body}
@@ -36,3 +37,8 @@ pub record IsFork {K X : Type 0} (height : ℕ) (low : List (K × X) × ℕ) (sp
 abbrev pub IsShaped : {K X : Type 0} → ℕ → Body K X → Type 0
 IsShaped h (Leaf entries) = IsChunk h entries.items
 IsShaped h (Fork low split high) = IsFork h (arc_value low) split (arc_value high)
+
+-- the pair is out of the tree, or out of what is to stand in its place
+abbrev pub LeavesAfter : {K X : Type 0} → (K → Bool) → List (K × X) → Option (Option (Arc (List (K × X) × ℕ) Global)) → List (K × X) → Type 0
+LeavesAfter test old None new = new ≡ remove_entry test old
+LeavesAfter test old (Some rest) new = pairs_of rest ≡ remove_entry test old

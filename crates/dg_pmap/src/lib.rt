@@ -18,6 +18,7 @@ mod order;
 mod root;
 mod search;
 mod share;
+mod take;
 #[cfg(test)]
 mod tests;
 mod tree;

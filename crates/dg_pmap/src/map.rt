@@ -117,6 +117,14 @@ impl<K: Ord, V> PMap<K, V> {
         }
     }
 
+    /// As [`PMap::run_at`], from the first pair whose key isn't smaller than the key.
+    pub fn run_from(&self, key: &K) -> &[(K, V)]
+        ensures run { result.now ≡ take (length result.now) (drop (count_below K.cmp key.now self.now) self.now) }
+        ensures some { count_below K.cmp key.now self.now < length self.now → 0 < length result.now }
+    {
+        self.run_at(self.position(key))
+    }
+
     /// The pair at a place in key order. Logarithmic.
     pub fn at(&self, index: usize) -> Option<(&K, &V)>
         ensures { option_map (λ p. (p.0.now, p.1.now)) result ≡ slice_get self.now index }
@@ -172,8 +180,8 @@ impl<K: Ord + Copy, V: Share> PMap<K, V> {
 
     /// Takes the key's pair out, and says whether the key was there.
     ///
-    /// Touches a way of logarithmic length, and nothing where the key isn't there. Where there is no
-    /// memory the map is as before.
+    /// Touches a way of logarithmic length, in place where no share holds it, and nothing where the key
+    /// isn't there. Where there is no memory the map is as before.
     pub fn remove(&mut self, key: &K) -> Result<bool, AllocError>
         ensures ok { OnOk result (self.new ≡ remove_entry (is_at (K.cmp key.now)) self.old) }
         ensures there { IfOk result (λ there. there ≡ is_some (lookup (is_at (K.cmp key.now)) self.old)) }
@@ -182,9 +190,7 @@ impl<K: Ord + Copy, V: Share> PMap<K, V> {
         if !self.contains_key(key) {
             return Ok(false);
         }
-        if let Some(root) = &self.root {
-            self.root = root.without(self.alloc, key)?;
-        }
+        root::remove(&mut self.root, self.alloc, key)?;
         Ok(true)
     }
 }

@@ -9,8 +9,7 @@ use Rattle.dg_pmap.proofs.map.PMap.remove.Goals as goal
 pub returns-then-not-contains_key-clause-ok : goal.returns-then-not-contains_key-clause-ok
 returns-then-not-contains_key-clause-ok g c = sym (remove_entry-absent (is_at (g.K.Ord.cmp c.args.key.now)) c.args.self.now (sym c.if-not-contains_key.ensures))
 
-pub invariant_of-self : goal.invariant_of-self
-invariant_of-self g c =
+pub invariant_of-self-2 : goal.invariant_of-self-2
+invariant_of-self-2 g c =
     let P : List (g.row.K.Denot × g.row.V.Denot) → Type 0 = λ l. IsStrictlySortedBy g.K.Ord.cmp (keys_of l) in
-    let old = subst P (ap pairs_of c.in-Some.is ∙ sym (ap (λ v. v.0) c.deref.ensures)) c.self.invariant in
-    subst P (sym c.in_ok-self-inside.ensures.pairs) (sorted-remove_entry g.met.K.Ord.total (is_at (g.K.Ord.cmp c.args.key.now)) _ old)
+    subst P (sym c.in_ok-remove.ensures.ok) (sorted-remove_entry g.met.K.Ord.total (is_at (g.K.Ord.cmp c.args.key.now)) _ c.self.invariant)
