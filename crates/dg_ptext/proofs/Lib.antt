@@ -1,0 +1,5 @@
+pub mod Strings
+pub mod Texts
+pub mod States
+pub mod Trees
+pub mod Tokens

@@ -1,0 +1,21 @@
+//! Protobuf text in the profile of this project: texts, and trees of named fields. The layer above reads a text by
+//! [`read_tree`] into a [`Tree`], or learns at which line the text stops to be one, and prints a tree by
+//! [`print_tree`] in the one form that reads as the same tree again.
+//!
+//! `specs/` says which bytes are which tokens (`Token`), what the tokens say (`Reading`), and what is printed
+//! (`Printed`). The tokens are taken one after the other, and the messages that are open lie on a stack, so reading
+//! takes time linear in the text.
+#![tactic(auto)]
+
+mod escapes;
+mod printing;
+mod reading;
+mod refusal;
+mod state;
+mod token;
+mod tree;
+
+pub use printing::{Bytes, print_tree};
+pub use reading::read_tree;
+pub use refusal::TextRefusal;
+pub use tree::{Field, Tree, Value};
