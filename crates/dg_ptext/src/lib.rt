@@ -12,6 +12,8 @@ mod printing;
 mod reading;
 mod refusal;
 mod state;
+#[cfg(test)]
+mod tests;
 mod token;
 mod tree;
 
