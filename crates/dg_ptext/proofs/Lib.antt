@@ -3,3 +3,5 @@ pub mod Texts
 pub mod States
 pub mod Trees
 pub mod Tokens
+pub mod Grammar
+pub mod Sound

@@ -1,3 +1,4 @@
 pub mod Token
 pub mod Reading
 pub mod Printed
+pub mod Grammar

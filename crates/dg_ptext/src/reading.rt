@@ -1,7 +1,9 @@
 //! Reading a text.
-ghost use Rattle.std.specs.Prelude.{◌≡◌};
+ghost use Rattle.std.specs.Prelude.{◌≡◌, List, IfOk};
 ghost use Rattle.std.specs.Str.{is_utf8};
 ghost use Rattle.dg_ptext.specs.Token.{line_behind, tokens};
+ghost use Rattle.dg_ptext.specs.declared.tree.Field.{Field};
+ghost use Rattle.dg_ptext.specs.Grammar.{Spells};
 ghost use Rattle.dg_ptext.specs.Reading.{Gives, reading, run, start, step_by};
 
 use crate::refusal::TextRefusal;
@@ -13,8 +15,19 @@ use std::alloc::Global;
 /// The tree that the bytes are a text of, each field with the line of its name. Refused is, with its line, the first
 /// place where the text can't go on: a token, the brace of a message inside 64 open ones, or the innermost open brace
 /// where the text ends in a message; before all that, bytes that aren't UTF-8. It takes time linear in the text.
-#[tactic(auto, unfolding(crate::specs::Reading::reading))]
 pub fn read_tree(alloc: Global, bytes: &[u8]) -> Result<Tree, TextRefusal>
+    // What is read is spelled so.
+    ensures found { IfOk result (λ tree. Spells bytes.now tree) }
+    // What is spelled so is read, unless memory runs out.
+    ensures spelled { (tree : List Field) → Spells bytes.now tree → Gives result (Ok tree) }
+    // Which refusal it is.
+    ensures answer { Gives result (reading bytes.now) }
+{
+    read_all(alloc, bytes)
+}
+
+#[tactic(auto, unfolding(crate::specs::Reading::reading))]
+fn read_all(alloc: Global, bytes: &[u8]) -> Result<Tree, TextRefusal>
     ensures { Gives result (reading bytes.now) }
 {
     if !is_text(bytes) {
