@@ -2,9 +2,10 @@
 //! [`read_tree`] into a [`Tree`], or learns at which line the text stops to be one, and prints a tree by
 //! [`print_tree`] in the one form that reads as the same tree again.
 //!
-//! `specs/` says which bytes are which tokens (`Token`), what the tokens say (`Reading`), and what is printed
-//! (`Printed`). The tokens are taken one after the other, and the messages that are open lie on a stack, so reading
-//! takes time linear in the text.
+//! `specs/` says which bytes are which tokens (`Token`), which tokens are which fields, production by production
+//! (`Grammar`), what the tokens say one after the other, and which is the first that can't be continued (`Reading`),
+//! and what is printed (`Printed`). The messages that are open lie on a stack, so reading takes time linear in the
+//! text and no deep recursion.
 #![tactic(auto)]
 
 mod escapes;
