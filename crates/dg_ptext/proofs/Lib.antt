@@ -5,3 +5,7 @@ pub mod Trees
 pub mod Tokens
 pub mod Grammar
 pub mod Sound
+pub mod Lexed
+pub mod Good
+pub mod Utf8
+pub mod Again

@@ -4,11 +4,12 @@
 //!
 //! `specs/` says which bytes are which tokens (`Token`), which tokens are which fields, production by production
 //! (`Grammar`), what the tokens say one after the other, and which is the first that can't be continued (`Reading`),
-//! and what is printed (`Printed`). The messages that are open lie on a stack, so reading takes time linear in the
+//! what is printed (`Printed`), and which trees are the same but for line numbers (`Same`). The messages that are open lie on a stack, so reading takes time linear in the
 //! text and no deep recursion.
 #![tactic(auto)]
 
 mod escapes;
+mod laws;
 mod printing;
 mod reading;
 mod refusal;
@@ -18,6 +19,7 @@ mod tests;
 mod token;
 mod tree;
 
+pub use laws::reads_again;
 pub use printing::{Bytes, print_tree};
 pub use reading::read_tree;
 pub use refusal::TextRefusal;
