@@ -1,0 +1,11 @@
+pub mod Strings
+pub mod Texts
+pub mod States
+pub mod Trees
+pub mod Tokens
+pub mod Grammar
+pub mod Sound
+pub mod Lexed
+pub mod Good
+pub mod Utf8
+pub mod Again
