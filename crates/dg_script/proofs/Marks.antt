@@ -3,7 +3,6 @@ use Rattle.std.proofs.Common.{◌≡◌, ℕ, suc, ◌+◌, ◌<◌, eqb, Bool, 
 use Rattle.std.proofs.lemmas.Bool.{eqb-true}
 use Rattle.dg_script.specs.Forms.{Split, is_mark, or_here, split_at_last}
 
-
 -- what stands before a mark without another behind it
 split_behind : (front : List ℕ) (b : ℕ) (rest : List ℕ) → is_mark b ≡ true → split_at_last rest ≡ None →
     split_at_last (front ++ b ∷ rest) ≡ Some (record { node = front; by_name = eqb b 58; label = rest })

@@ -19,21 +19,21 @@ use Rattle.dg_script.specs.Steps.{step_in}
 abbrev pub step_named : List ℕ → Option StepVerb
 step_named text =
     cond (is_word text (codes "make")) (Some step.Make) (cond (is_word text (codes "override")) (Some step.Override)
-      (cond (is_word text (codes "set")) (Some step.Set) (cond (is_word text (codes "clear")) (Some step.Clear)
-        (cond (is_word text (codes "delete")) (Some step.Delete) (cond (is_word text (codes "defective")) (Some step.Defective)
-          (cond (is_word text (codes "connect")) (Some step.Connect)
-            (cond (is_word text (codes "disconnect")) (Some step.Disconnect) None)))))))
+    (cond (is_word text (codes "set")) (Some step.Set) (cond (is_word text (codes "clear")) (Some step.Clear)
+    (cond (is_word text (codes "delete")) (Some step.Delete) (cond (is_word text (codes "defective")) (Some step.Defective)
+    (cond (is_word text (codes "connect")) (Some step.Connect)
+    (cond (is_word text (codes "disconnect")) (Some step.Disconnect) None)))))))
 
 abbrev pub asking_named : List ℕ → Option Verb
 asking_named text =
     cond (is_word text (codes "pin")) (Some verb.Pin) (cond (is_word text (codes "drop")) (Some verb.Drop)
-      (cond (is_word text (codes "ask")) (Some verb.Ask) (cond (is_word text (codes "build")) (Some verb.Build)
-        (cond (is_word text (codes "alias")) (Some verb.Alias) (cond (is_word text (codes "evict")) (Some verb.Evict) None)))))
+    (cond (is_word text (codes "ask")) (Some verb.Ask) (cond (is_word text (codes "build")) (Some verb.Build)
+    (cond (is_word text (codes "alias")) (Some verb.Alias) (cond (is_word text (codes "evict")) (Some verb.Evict) None)))))
 
 abbrev pub other_named : List ℕ → Option Verb
 other_named text =
     cond (is_word text (codes "begin")) (Some verb.Begin) (cond (is_word text (codes "end")) (Some verb.End)
-      (cond (is_word text (codes "undo")) (Some verb.Undo) (cond (is_word text (codes "redo")) (Some verb.Redo) (asking_named text))))
+    (cond (is_word text (codes "undo")) (Some verb.Undo) (cond (is_word text (codes "redo")) (Some verb.Redo) (asking_named text))))
 
 abbrev pub step_or_other : Option StepVerb → Option Verb → Option Verb
 step_or_other None other = other

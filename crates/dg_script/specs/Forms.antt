@@ -109,14 +109,14 @@ kind n = Some (record { 0 = n })
 abbrev pub later_kind : List ℕ → Option Kind
 later_kind text =
     cond (is_word text (codes "GameObject")) (kind 7) (cond (is_word text (codes "ComponentRef")) (kind 8)
-      (cond (is_word text (codes "ComponentEmbedded")) (kind 9) (cond (is_word text (codes "GoInstance")) (kind 10)
-        (cond (is_word text (codes "CollInstance")) (kind 11) (cond (is_word text (codes "Collection")) (kind 12) None)))))
+    (cond (is_word text (codes "ComponentEmbedded")) (kind 9) (cond (is_word text (codes "GoInstance")) (kind 10)
+    (cond (is_word text (codes "CollInstance")) (kind 11) (cond (is_word text (codes "Collection")) (kind 12) None)))))
 
 abbrev pub kind_named : List ℕ → Option Kind
 kind_named text =
     cond (is_word text (codes "Num")) (kind 1) (cond (is_word text (codes "Sum")) (kind 2)
-      (cond (is_word text (codes "Text")) (kind 3) (cond (is_word text (codes "Join")) (kind 4)
-        (cond (is_word text (codes "ResourceFile")) (kind 5) (cond (is_word text (codes "ScriptFile")) (kind 6) (later_kind text))))))
+    (cond (is_word text (codes "Text")) (kind 3) (cond (is_word text (codes "Join")) (kind 4)
+    (cond (is_word text (codes "ResourceFile")) (kind 5) (cond (is_word text (codes "ScriptFile")) (kind 6) (later_kind text))))))
 
 abbrev pub kind_of : List ℕ → Result Kind ScriptCode
 kind_of text = valued (kind_named text)
@@ -125,9 +125,9 @@ kind_of text = valued (kind_named text)
 abbrev pub type_named : List ℕ → Option PType
 type_named text =
     cond (is_word text (codes "number")) (Some ptype.Number) (cond (is_word text (codes "hash")) (Some ptype.Hash)
-      (cond (is_word text (codes "url")) (Some ptype.Url) (cond (is_word text (codes "vector3")) (Some ptype.Vector3)
-        (cond (is_word text (codes "vector4")) (Some ptype.Vector4) (cond (is_word text (codes "quat")) (Some ptype.Quat)
-          (cond (is_word text (codes "boolean")) (Some ptype.Boolean) None))))))
+    (cond (is_word text (codes "url")) (Some ptype.Url) (cond (is_word text (codes "vector3")) (Some ptype.Vector3)
+    (cond (is_word text (codes "vector4")) (Some ptype.Vector4) (cond (is_word text (codes "quat")) (Some ptype.Quat)
+    (cond (is_word text (codes "boolean")) (Some ptype.Boolean) None))))))
 
 -- a word that stands there without quotes
 abbrev pub is_bare : Word → List ℕ → Bool

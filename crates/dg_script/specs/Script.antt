@@ -50,7 +50,7 @@ row_of_words inside (Some words) = row_in inside words
 abbrev pub row_of_text : Bool → List ℕ → Result Row ScriptCode
 row_of_text inside line =
     cond (nat_lt most_bytes (length line)) (Err code.TooLong)
-      (cond (is_comment line) (Ok row.Nothing) (row_of_words inside (words_in (chars line))))
+    (cond (is_comment line) (Ok row.Nothing) (row_of_words inside (words_in (chars line))))
 
 abbrev pub row_at : Bool → List ℕ → Result Row ScriptCode
 row_at inside line = cond (is_utf8 line) (row_of_text inside line) (Err code.Utf8)

@@ -58,15 +58,15 @@ vec3_in _ = Err Arity
 abbrev pub quat_in : List Word → Result Datum ScriptCode
 quat_in (x ∷ y ∷ z ∷ w ∷ []) =
     decimal_of x >>= λ a. (decimal_of y >>= λ b. (decimal_of z >>= λ c. (decimal_of w >>= λ d.
-      Ok (datum.Quat (record { x = a; y = b; z = c; w = d })))))
+    Ok (datum.Quat (record { x = a; y = b; z = c; w = d })))))
 quat_in _ = Err Arity
 
 -- a quoted word, or `true`, `false` or a decimal without quotes
 abbrev pub value_of : Word → Result Datum ScriptCode
 value_of word =
     cond word.quoted (Ok (datum.Text word.text))
-      (cond (is_word word.text (codes "true")) (Ok (datum.Flag true))
-        (cond (is_word word.text (codes "false")) (Ok (datum.Flag false)) (decimal_of word >>= λ z. Ok (datum.Dec z))))
+    (cond (is_word word.text (codes "true")) (Ok (datum.Flag true))
+    (cond (is_word word.text (codes "false")) (Ok (datum.Flag false)) (decimal_of word >>= λ z. Ok (datum.Dec z))))
 
 abbrev pub one_value_in : Word → List Word → Result Datum ScriptCode
 one_value_in word [] = value_of word

@@ -12,13 +12,11 @@ mod acts;
 mod command;
 mod forms;
 mod lines;
-mod reading;
 mod reader;
+mod reading;
 mod refusal;
 mod splits;
 mod steps;
-
-
 mod verbs;
 mod words;
 
