@@ -1,5 +1,5 @@
 -- The last mark of a word.
-use Rattle.std.proofs.Common.{◌≡◌, ℕ, suc, ◌+◌, ◌<◌, eqb, Bool, true, false, cond, List, [], ◌∷◌, ◌++◌, Option, Some, None, length, get_or, take, drop, refl, sym, ap, subst, ◌∙◌, arith, drop-cons, take-append-drop, add-one, inl, inr, ⊎_elim, ◌||◌, ◌⊎◌}
+use Rattle.std.proofs.Common.{◌≡◌, ℕ, ◌+◌, ◌<◌, eqb, Bool, true, false, cond, List, [], ◌∷◌, ◌++◌, Some, None, length, get_or, take, drop, refl, sym, ap, ◌∙◌, arith, drop-cons, take-append-drop, add-one, inl, inr, ⊎_elim, ◌||◌, ◌⊎◌}
 use Rattle.std.proofs.lemmas.Bool.{eqb-true}
 use Rattle.dg_script.specs.Forms.{Split, is_mark, or_here, split_at_last}
 

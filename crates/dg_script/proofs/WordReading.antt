@@ -2,10 +2,9 @@
 use Rattle.std.proofs.Common.{◌≡◌, ◌≢◌, ℕ, ◌<◌, eqb, Bool, true, false, cond, List, [], ◌∷◌, ◌++◌, Option, Some, None, length, encode_utf8, refl, sym, ap, ◌∙◌, append_assoc, append-nil, arith}
 use Rattle.std.proofs.lemmas.Str.{length-encode, len_utf8_bounds}
 use Rattle.std.proofs.lemmas.Bool.Decides.{nat_tests}
-use Rattle.std.specs.Bool.{MatchBool}
 use Rattle.dg_script.specs.declared.words.Word.{Word}
 use Rattle.dg_script.specs.Words.{is_blank, backslash, behind, ended, in_front, words_in, bare_in, quoted_in, closed_in, escaped_in}
-use Rattle.dg_script.specs.Parts.{text_before, word_before, word_in, EndIs}
+use Rattle.dg_script.specs.Parts.{text_before, word_before, word_in}
 
 pub encode_utf8_nonempty : (c : ℕ) → 0 < length (encode_utf8 c)
 encode_utf8_nonempty c = let bounds = len_utf8_bounds c in omega (arith, length-encode c)

@@ -1,5 +1,5 @@
 -- What the reader of a line's words has at a place: a part that it has read, and what is left.
-use Rattle.std.specs.Prelude.{◌≡◌, ◌≤◌, ℕ, List, [], ◌∷◌, ◌++◌, Bool, true, false, cond, ◌==◌, Option, Some, None, length}
+use Rattle.std.specs.Prelude.{◌≡◌, ◌≤◌, ℕ, List, ◌∷◌, Bool, true, false, cond, ◌==◌, Option, Some, None, length}
 use Rattle.std.specs.Bool.{MatchBool}
 use Rattle.std.specs.Str.{chars}
 use Rattle.dg_script.specs.declared.words.Word.{Word}

@@ -3,7 +3,6 @@ use Rattle.std.specs.Prelude.{◌≡◌, ℕ, List, [], ◌∷◌, ◌++◌, Opt
 use Rattle.dg_script.specs.declared.command.ScriptCode.{ScriptCode}
 use Rattle.dg_script.specs.declared.command.ScriptRefusal.{ScriptRefusal}
 use Rattle.dg_script.specs.declared.command.StepWords.{StepWords}
-use Rattle.dg_script.specs.declared.command.Act.{Act}
 use Rattle.dg_script.specs.declared.command.Act.TheVariants as act
 use Rattle.dg_script.specs.declared.command.Command.{Command}
 use Rattle.dg_script.specs.declared.acts.Row.{Row}

@@ -1,5 +1,5 @@
 -- Which bytes are which script, and which line of any others is the first bad one.
-use Rattle.std.specs.Prelude.{ℕ, ◌+◌, ◌-◌, List, [], ◌∷◌, ◌++◌, Bool, true, false, cond, ◌==◌, nat_lt, min, Option, Some, None, is_some, Result, Ok, Err, length}
+use Rattle.std.specs.Prelude.{ℕ, ◌+◌, List, [], ◌∷◌, Bool, false, cond, ◌==◌, nat_lt, min, Option, Some, None, is_some, Result, Ok, Err, length}
 use Rattle.std.specs.List.{slice_split}
 use Rattle.std.specs.Str.{chars, is_utf8}
 use Rattle.dg_script.specs.declared.command.ScriptCode.{ScriptCode}

@@ -1,5 +1,5 @@
 -- Which words are which step of a transaction.
-use Rattle.std.specs.Prelude.{ℕ, List, [], ◌∷◌, Bool, true, false, cond, Option, Some, None, Result, Ok, Err, codes}
+use Rattle.std.specs.Prelude.{ℕ, List, [], ◌∷◌, true, false, cond, Result, Ok, Err, codes}
 use Rattle.dg_base.specs.declared.datum.Datum.{Datum}
 use Rattle.dg_base.specs.declared.datum.Datum.TheVariants as datum
 use Rattle.dg_script.specs.declared.command.ScriptCode.{ScriptCode}

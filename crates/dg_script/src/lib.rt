@@ -17,6 +17,8 @@ mod reading;
 mod refusal;
 mod splits;
 mod steps;
+#[cfg(test)]
+mod tests;
 mod verbs;
 mod words;
 

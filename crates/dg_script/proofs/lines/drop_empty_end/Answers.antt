@@ -1,4 +1,4 @@
-use Rattle.std.proofs.Common.{◌≡◌, ◌∙◌, ap, sym, map}
+use Rattle.std.proofs.Common.{◌∙◌, ap, sym, map}
 use Rattle.dg_script.proofs.LineEnds.{without_empty_end-empty, without_empty_end-kept}
 use Rattle.dg_script.proofs.lines.drop_empty_end.Goals as goal
 

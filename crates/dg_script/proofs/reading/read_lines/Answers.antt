@@ -1,4 +1,4 @@
-use Rattle.std.proofs.Common.{◌≡◌, ◌∙◌, ap, map, drop, ◌+◌}
+use Rattle.std.proofs.Common.{◌∙◌, ap, map, drop, ◌+◌}
 use Rattle.dg_script.specs.Script.{rest_of}
 use Rattle.dg_script.specs.Reader.{joined, line_of}
 use Rattle.dg_script.proofs.Blocks.{goes_on, stops}

@@ -1,4 +1,4 @@
-use Rattle.std.proofs.Common.{◌≡◌, ◌<◌, ◌≤◌, ◌∷◌, ◌++◌, ◌∙◌, true, false, ap, sym, rules, arith, length, string_bytes, encode_utf8}
+use Rattle.std.proofs.Common.{◌≡◌, ◌<◌, ◌≤◌, ◌∷◌, ◌++◌, ◌∙◌, ap, sym, rules, arith, length, string_bytes, encode_utf8}
 use Rattle.std.specs.Str.{chars}
 use Rattle.dg_script.specs.Words.{quoted_in, closed_in, words_in, behind}
 use Rattle.dg_script.specs.Parts.{text_before}

@@ -1,4 +1,4 @@
-use Rattle.std.proofs.Common.{◌≡◌, ◌≢◌, ◌≤◌, ◌∷◌, ◌∙◌, ap, sym, rules, arith, length}
+use Rattle.std.proofs.Common.{◌≡◌, ◌≤◌, rules, length}
 use Rattle.std.specs.Str.{chars}
 use Rattle.dg_script.specs.Words.{behind, bare_in, quoted_in, words_in}
 use Rattle.dg_script.specs.Parts.{text_before}

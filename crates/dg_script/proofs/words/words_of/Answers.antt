@@ -1,4 +1,4 @@
-use Rattle.std.proofs.Common.{◌≡◌, ◌<◌, ◌≤◌, ◌∷◌, [], ◌++◌, ◌∙◌, true, false, ap, sym, rules, arith, length}
+use Rattle.std.proofs.Common.{◌≡◌, ◌∷◌, [], ◌++◌, ◌∙◌, false, ap, sym, rules}
 use Rattle.std.specs.Str.{chars}
 use Rattle.dg_script.specs.Words.{is_blank, words_in}
 use Rattle.dg_script.specs.Parts.{word_before, word_in}
