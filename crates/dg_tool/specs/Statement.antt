@@ -27,8 +27,10 @@ pub record EndsAs (due : Out) (status : ℕ) (before now : Option (List ℕ)) : 
   pub files_failed : status ≡ file_fault → now ≡ before
   pub cut_off : (status ≡ sink_fault) ⊎ (status ≡ no_memory) → GotPrefix before now (text_of due.lines)
 
--- a fault's status comes only where that count of faults rose in the call
+-- a fault's status comes only where that count of faults rose in the call, and no count falls
 pub record HasCauses (status files_before files_now out_before out_now : ℕ) : Type 0 where
+  pub files_never_fall : files_before ≤ files_now
+  pub out_never_falls : out_before ≤ out_now
   pub file_cause : status ≡ file_fault → Rose files_before files_now
   pub sink_cause : status ≡ sink_fault → Rose out_before out_now
 

@@ -55,6 +55,7 @@ fn put<S: Sink>(out: &mut S, due: &output::Out) -> Ended
     requires { due.now.status ≤ 3 }
     ensures ends { EndsAs due.now result.status (S.bytes out.old) (S.bytes out.new) }
     ensures causes { result.status ≡ 5 → Rose (S.faults out.old) (S.faults out.new) }
+    ensures never_falls { S.faults out.old ≤ S.faults out.new }
     ensures others { (result.status ≡ due.now.status) ⊎ ((result.status ≡ 5) ⊎ (result.status ≡ 6)) }
 {
     match printing::put_lines(out, due.lines.as_slice()) {
