@@ -6,6 +6,9 @@
 
 ghost use Rattle.std.specs.Prelude.{◌≡◌, ◌<◌};
 
+#[cfg(test)]
+mod tests;
+
 use dg_base::Steps;
 use dg_files::{DirFiles, StdSink};
 use dg_tool::run_alone;
