@@ -2,8 +2,8 @@ use super::*;
 use std::alloc::{AllocError, Global};
 use std::test::Fail;
 
-// What each text reads as, in billionths. The values were computed by Python's `decimal`, with 200 digits of precision
-// and ROUND_HALF_UP at the ninth place, after a test of the form by a regular expression.
+// What each text reads as, in billionths: as Python's `decimal` has it, with as many digits as it takes and
+// ROUND_HALF_UP at the ninth place, behind a test of the form by a regular expression.
 const READ: [(&str, Result<i64, DecimalRefusal>); 46] = [
     ("0", Ok(0)),
     ("1", Ok(1_000_000_000)),
@@ -53,7 +53,8 @@ const READ: [(&str, Result<i64, DecimalRefusal>); 46] = [
     ("٣", Err(DecimalRefusal::NotNumber)),
 ];
 
-// What each value prints as: Python's `format` of the value over a billion in `decimal`, its zeros at the end taken off.
+// What each value prints as: as Python's `decimal` prints the value over a billion in the format `.9f`, less the zeros
+// at its end and then a point there.
 const PRINTED: [(i64, &str); 9] = [
     (0, "0"),
     (1, "0.000000001"),
@@ -66,7 +67,7 @@ const PRINTED: [(i64, &str); 9] = [
     (-9_223_372_036_854_775_808, "-9223372036.854775808"),
 ];
 
-// Products, by Python's whole numbers of any size.
+// Products: as Python's `decimal` has them, over a billion and rounded by ROUND_HALF_UP.
 const PRODUCTS: [(i64, i64, Result<i64, Range>); 7] = [
     (1, 500_000_000, Ok(1)),
     (1, 499_999_999, Ok(0)),
