@@ -55,19 +55,21 @@ fn ends(rt: HostRuntime, script: &str, status: u8, text: &str) -> Result<bool, A
 }
 
 #[test]
-fn scripts_in_a_folder_are_of_the_form_or_not_built(rt: HostRuntime) -> Result<(), Fail> {
+fn scripts_in_a_folder_are_played_or_refused(rt: HostRuntime) -> Result<(), Fail> {
     for (script, status, text) in [
         ("", 0, ""),
-        ("make\tNum\tabcdefghijklmnop\n", 0, "1: ok\n"),
+        ("make\tNum  _a1\r\n", 0, "1: ok\n"),
         ("make Sum s\nask now s.total", 0, "1: ok\n2: 0\n"),
-        ("make Num \n", 3, NOT_BUILT),
-        ("make Num abcdefghijklmnopq\n", 3, NOT_BUILT),
-        ("make Num A\n", 3, NOT_BUILT),
-        ("make Num a\r\n", 3, NOT_BUILT),
-        ("make Num a \n", 3, NOT_BUILT),
-        ("make  Num a\n", 3, NOT_BUILT),
-        ("ask now s.total\nmake Sum s\n", 3, NOT_BUILT),
-        ("make Sum s\nset s.value 1\n", 3, NOT_BUILT),
+        ("begin\nmake Num a\n", 3, "error: script line 1 OpenBlock\n"),
+        ("make Num \n", 3, "error: script line 1 Arity\n"),
+        ("undo\n", 3, NOT_BUILT),
+        ("make Collection c\n", 3, NOT_BUILT),
+        ("ask now s.total\nmake Sum s\n", 0, "1: NoName\n2: ok\n"),
+        (
+            "begin\nmake Sum s\nset s.value 1\nend\n",
+            0,
+            "1: refused step 2 NotProperty\n",
+        ),
     ] {
         assert!(rt; ends(rt, script, status, text)?, "{script}");
     }

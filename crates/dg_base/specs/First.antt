@@ -94,3 +94,10 @@ first_tables = record {
   substitute = λ k l. datum.Dec (pos 0);
   produce = λ k l args. number_made (sum_of_args args);
 }
+
+-- the same schema, but a sum owns its terms
+abbrev pub owning_role : Kind → Label → Role
+owning_role k l = cond ((k.0 == 2) && (l.0 == 2)) (role.Input ty.Number true true false) (first_role k l)
+
+abbrev pub owning_tables : Tables
+owning_tables = record first_tables { role = owning_role }

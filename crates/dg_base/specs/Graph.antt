@@ -58,6 +58,14 @@ id_of (Some x) = Some x.id
 abbrev pub override_in : Graph → NodeId → NodeId → Option NodeId
 override_in g root original = id_of (find (λ x. overrides root original x.origin) g.nodes)
 
+-- where a node comes from
+abbrev pub origin_of : Option Node → Option Origin
+origin_of None = None
+origin_of (Some x) = Some x.origin
+
+abbrev pub origin_at : Graph → NodeId → Option Origin
+origin_at g n = origin_of (node_at g n)
+
 -- the explicit arcs into an input, in the order in which they were connected
 abbrev pub arcs_into : Graph → NodeId → Label → List ArcRec
 arcs_into g n i = filter (λ a. same_node a.node n && same_label a.input i) g.arcs

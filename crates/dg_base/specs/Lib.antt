@@ -1,6 +1,7 @@
 -- In reading order: each module uses only the ones before it.
 pub mod Weight
 pub mod Same
+pub mod Order
 pub mod Tables
 pub mod Graph
 pub mod Chain
@@ -8,6 +9,13 @@ pub mod Sources
 pub mod Rule
 pub mod Value
 pub mod Sound
+pub mod Walk
+pub mod Owned
+pub mod Laws
 pub mod Apply
+pub mod Touched
+pub mod Dirty
 pub mod First
 pub mod Worked
+pub mod Names
+pub mod Labels

@@ -122,9 +122,14 @@ given_labels t xs None = []
 given_labels t xs (Some k) =
     filter (λ l. is_given (t.role k l)) (t.labels k) ++ cond (t.is_open k) (map (λ f. f.label) (open_fields xs)) []
 
+abbrev pub ends_of : NodeId → List Label → List Endpoint
+ends_of n ls = map (λ l. record { node = n; label = l }) ls
+
+abbrev pub endpoints_at : Tables → Graph → NodeId → List Endpoint
+endpoints_at t g n = ends_of n (given_labels t (chain g n) (kind_along (chain g n)))
+
 abbrev pub endpoints_of : Tables → Graph → Node → List Endpoint
-endpoints_of t g x =
-    map (λ l. record { node = x.id; label = l }) (given_labels t (chain g x.id) (kind_along (chain g x.id)))
+endpoints_of t g x = endpoints_at t g x.id
 
 abbrev pub endpoints_in : Tables → Graph → List Node → List Endpoint
 endpoints_in t g [] = []

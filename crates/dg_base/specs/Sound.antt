@@ -19,6 +19,7 @@ use Rattle.dg_base.specs.Tables.{Tables, has_type}
 use Rattle.dg_base.specs.Graph.{Graph, node_at, has_node, overrides, arcs_into}
 use Rattle.dg_base.specs.Chain.{kind_of}
 use Rattle.dg_base.specs.Rule.{is_open_label}
+use Rattle.dg_base.specs.Order.{rises}
 
 -- the most node ids, and the most arcs
 abbrev pub max_nodes : ℕ
@@ -26,15 +27,6 @@ max_nodes = 262144
 
 abbrev pub max_arcs : ℕ
 max_arcs = 1048576
-
--- each number is below the next
-abbrev pub rises_from : ℕ → List ℕ → Bool
-rises_from a [] = true
-rises_from a (b ∷ bs) = nat_lt a b && rises_from b bs
-
-abbrev pub rises : List ℕ → Bool
-rises [] = true
-rises (a ∷ as_) = rises_from a as_
 
 -- a root that is still there is an override node that names itself as its root
 abbrev pub has_root : NodeId → Origin → Bool
@@ -120,3 +112,7 @@ pub record IsSound (t : Tables) (g : Graph) : Type 0 where
   pub arcs_differ : IsTrue (arcs_once g.arcs)
   pub arcs_fit : IsTrue (list_all (arc_fits t g) g.arcs)
   pub arcs_few : length g.arcs ≤ max_arcs
+
+-- each id is below this one
+abbrev pub ids_below : Graph → ℕ → Bool
+ids_below g next = list_all (λ x. nat_lt x.id.0 next) g.nodes

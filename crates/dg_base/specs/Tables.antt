@@ -1,5 +1,5 @@
 -- What the definitions need to know of a schema, as tables: all that follows is generic over them.
-use Rattle.std.specs.Prelude.{◌≡◌, ◌≢◌, ◌<◌, List, Bool, true, false, Contains, IsTrue, AllPairs}
+use Rattle.std.specs.Prelude.{◌≡◌, ◌≢◌, ◌<◌, List, Bool, true, false, Contains, IsTrue, map}
 use Rattle.dg_base.specs.declared.ids.Kind.{Kind}
 use Rattle.dg_base.specs.declared.ids.Label.{Label}
 use Rattle.dg_base.specs.declared.datum.Datum.{Datum}
@@ -12,6 +12,7 @@ use Rattle.dg_base.specs.declared.schema.ArgSpec.{ArgSpec}
 use Rattle.dg_base.specs.declared.schema.ArgSpec.TheVariants as arg
 use Rattle.dg_base.specs.declared.schema.ArgVal.{ArgVal}
 use Rattle.dg_base.specs.declared.schema.Made.{Made}
+use Rattle.dg_base.specs.Order.{rises}
 
 pub record Tables : Type 0 where
   pub labels : Kind → List Label  -- the labels of a kind
@@ -49,9 +50,9 @@ ArgFits t k arg.Open = Unit {0}
 
 -- the laws that each schema keeps
 pub record AreTables (t : Tables) : Type 0 where
-  -- the labels of a kind are below 1,024, each once
+  -- the labels of a kind are below 1,024 and rise, so each stands once
   pub low : (k : Kind) (l : Label) → Contains (t.labels k) l → l.0 < 1024
-  pub once : (k : Kind) → AllPairs (λ a b. a ≢ b) (t.labels k)
+  pub rise : (k : Kind) → IsTrue (rises (map (λ l. l.0) (t.labels k)))
   -- just these have a role
   pub known : (k : Kind) (l : Label) → Contains (t.labels k) l → t.role k l ≢ role.Nothing
   pub others : (k : Kind) (l : Label) → t.role k l ≢ role.Nothing → Contains (t.labels k) l

@@ -12,7 +12,11 @@ use Rattle.dg_base.specs.declared.answer.FaultCode.TheVariants as code
 use Rattle.dg_base.specs.declared.graph.Node.{Node}
 use Rattle.dg_base.specs.declared.graph.Origin.TheVariants as origin
 use Rattle.dg_base.specs.Graph.{Graph}
+use Rattle.dg_base.specs.declared.step.NodeRef.{Id}
+use Rattle.dg_base.specs.declared.step.Step.{Step}
+use Rattle.dg_base.specs.declared.step.Step.TheVariants as step
 use Rattle.dg_base.specs.Apply.{Progress}
+use Rattle.dg_base.specs.Touched.{Applied}
 use Rattle.dg_base.specs.Value.{faulted_or, faults_of}
 use Rattle.dg_base.specs.First.{num, sum_, value, terms, extra, total}
 
@@ -127,3 +131,59 @@ other_extra = record { nodes = num_node 1 ∷ num_node 2 ∷ sum_node 3 ∷ []; 
 -- a transaction that begins with a graph
 abbrev pub begun : Graph → ℕ → Progress
 begun g next = record { graph = g; next = next; made = [] }
+
+-- a number is set, one is made, and one that isn't there is set
+abbrev pub third_refused : List Step
+third_refused =
+    step.Set (Id (node_id 1)) value (whole 5) ∷ step.Make num ∷ step.Set (Id (node_id 9)) value (whole 1) ∷ []
+
+-- a sum of a sum, which owns its terms, the second of them a number that it shares with the first
+abbrev pub owning : Graph
+owning = record {
+  nodes = num_node 1 ∷ num_node 2 ∷ sum_node 3 ∷ sum_node 4 ∷ [];
+  arcs = arc_from 2 value 3 terms ∷ arc_from 1 value 3 terms ∷ arc_from 3 total 4 terms ∷ arc_from 1 value 4 terms ∷ [];
+}
+
+-- a sum of one number, and an override of both
+abbrev pub overridden : Graph
+overridden = record {
+  nodes = num_node 1 ∷ sum_node 2 ∷ over_node 3 3 2 ∷ over_node 4 3 1 ∷ [];
+  arcs = arc_from 1 value 2 terms ∷ [];
+}
+
+-- the sum and the number alone
+abbrev pub not_overridden : Graph
+not_overridden = record { nodes = num_node 1 ∷ sum_node 2 ∷ []; arcs = arc_from 1 value 2 terms ∷ [] }
+
+-- the same without the arc
+abbrev pub apart : Graph
+apart = record { nodes = num_node 1 ∷ sum_node 2 ∷ []; arcs = [] }
+
+-- a sum, an override of it, an override of that, and a number
+abbrev pub twice_overridden : Graph
+twice_overridden = record { nodes = sum_node 1 ∷ over_node 2 2 1 ∷ over_node 3 3 2 ∷ num_node 4 ∷ []; arcs = [] }
+
+-- the number connected to the sum: it has got an override node in the first override, and that one
+-- has got an override node in the second
+abbrev pub twice_populated : Graph
+twice_populated = record {
+  nodes = sum_node 1 ∷ over_node 2 2 1 ∷ over_node 3 3 2 ∷ num_node 4 ∷ over_node 5 2 4 ∷ over_node 6 3 5 ∷ [];
+  arcs = arc_from 4 value 1 terms ∷ [];
+}
+
+-- a transaction that made nothing
+abbrev pub done : Graph → ℕ → List Endpoint → Applied
+done g next touched = record { graph = g; next = next; made = []; touched = touched }
+
+-- steps on nodes that are there
+abbrev pub deletes : ℕ → List Step
+deletes n = step.Delete (Id (node_id n)) ∷ []
+
+abbrev pub sets : ℕ → ℕ → List Step
+sets n v = step.Set (Id (node_id n)) value (whole v) ∷ []
+
+abbrev pub connects : ℕ → Label → ℕ → Label → List Step
+connects n l m i = step.Connect (Id (node_id n)) l (Id (node_id m)) i ∷ []
+
+abbrev pub disconnects : ℕ → Label → ℕ → Label → List Step
+disconnects n l m i = step.Disconnect (Id (node_id n)) l (Id (node_id m)) i ∷ []

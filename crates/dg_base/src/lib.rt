@@ -5,13 +5,22 @@
 //! sound, what a chain and the sources of an input are, which rule an endpoint has, which value a
 //! rule gives, and what a step does to a graph. `docs/DEFINITIONS.md` walks through them.
 //!
-//! Layers above may use all that is public here. Want of memory is std's `AllocError`.
+//! Layers above may use all that is public here, and the lemmas of `proofs/` on the definitions:
+//! `Chains` (nodes, chains, kinds, sources and heirs of a sound graph), `Walks` and `GraphWalks` (what
+//! a loop with a stack computes, cascade trees and deletions), `Orders` (endpoints in order),
+//! `Members` (what belongs to a list), and that a sound graph stays sound: by each change
+//! (`SoundNodes`, `SoundValues`, `SoundArcs`, `SoundDeletes`), by each step (`SoundSteps`,
+//! `SoundOverrides`) and by a transaction (`SoundApplied`); `SoundKept` has what stays of the other
+//! nodes. Want of memory is std's `AllocError`.
 #![tactic(auto)]
 
 mod answer;
 mod datum;
 mod graph;
 mod ids;
+mod labels;
+pub mod laws;
+mod names;
 mod rule;
 mod schema;
 mod step;
@@ -25,6 +34,8 @@ pub use answer::{Answer, Fault, FaultCode, Faults, Held};
 pub use datum::{Datum, FieldOf, Fields, Items, PType, PropVal, V3, V4};
 pub use graph::{Node, Origin};
 pub use ids::{ArcRec, Endpoint, Kind, Label, NodeId};
+pub use labels::{label_name, label_named, labels_agree};
+pub use names::Names;
 pub use rule::{ArgRule, ArgRules, Ends, Props, Rule};
 pub use schema::{ArgSpec, ArgVal, Helds, Made, Role, Schema, Ty};
 pub use step::{NodeRef, Step, TxCode};

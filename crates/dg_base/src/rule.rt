@@ -1,6 +1,6 @@
 ghost use Rattle.std.specs.Prelude.{◌≡◌, List};
 
-use crate::{Datum, Endpoint, Kind, Label, PropVal};
+use crate::{Datum, Endpoint, Kind, Label, NodeId, PropVal};
 use smallvec::SmallVec;
 use std::alloc::Global;
 use std::marker::Model;
@@ -18,6 +18,16 @@ pub enum ArgRule {
     Own(Endpoint),
     Input { input: Label, sources: Ends },
     Open(Props),
+}
+
+/// What fills the unused places of an `ArgRules`.
+impl Default for ArgRule {
+    fn default() -> ArgRule {
+        ArgRule::Own(Endpoint {
+            node: NodeId(0),
+            label: Label(0),
+        })
+    }
 }
 
 /// The arguments of an output. Contracts see the list.

@@ -1,4 +1,4 @@
-use crate::{Answer, Datum, FieldOf, Fields, Held, Items, Label, PType, PropVal, Str, V3};
+use crate::{Answer, Datum, FieldOf, Fields, Held, Items, Label, Names, PType, PropVal, Str, V3};
 use std::alloc::{AllocError, Global};
 use std::test::Fail;
 
@@ -65,5 +65,19 @@ fn shares_an_answer(rt: HostRuntime) -> Result<(), Fail> {
     for owner in [held.share()?, held] {
         assert!(rt; matches!(owner.answer(), Answer::Good(Datum::Dec(5))));
     }
+    Ok(())
+}
+
+#[test]
+fn names_texts(rt: HostRuntime) -> Result<(), Fail> {
+    let mut names = Names::new(rt.alloc());
+    assert_eq!(rt; names.intern("speed")?, Label(1024));
+    assert_eq!(rt; names.intern("")?, Label(1025));
+    assert_eq!(rt; names.intern("speed")?, Label(1024));
+    assert!(rt; names.count() == 2);
+    names.cut(1);
+    assert_eq!(rt; names.find("speed"), Some(Label(1024)));
+    assert_eq!(rt; names.find(""), None);
+    assert!(rt; names.text(Label(1025)).is_none());
     Ok(())
 }

@@ -8,12 +8,15 @@ ghost use Rattle.dg_base.specs.declared.rule.Rule.TheVariants as rule;
 ghost use Rattle.dg_base.specs.declared.step.TxCode.TheVariants as tx;
 ghost use Rattle.dg_base.specs.Apply.{make_step, set_step, connect_step, changed_to, with_value};
 ghost use Rattle.dg_base.specs.Chain.{heirs};
-ghost use Rattle.dg_base.specs.First.{num, value, terms, extra, total, first_tables};
+ghost use Rattle.dg_base.specs.Dirty.{dirty};
+ghost use Rattle.dg_base.specs.First.{num, value, terms, extra, total, first_tables, owning_tables};
+ghost use Rattle.dg_base.specs.Owned.{cascade_tree, doomed};
 ghost use Rattle.dg_base.specs.Rule.{rule_of, dependencies};
 ghost use Rattle.dg_base.specs.Sound.{IsSound, arc_fits};
 ghost use Rattle.dg_base.specs.Sources.{sources};
+ghost use Rattle.dg_base.specs.Touched.{applied};
 ghost use Rattle.dg_base.specs.Value.{value_at, one_fault};
-ghost use Rattle.dg_base.specs.Worked.{at, arc_from, node_id, whole, three_and_four, ten_large, own_term, marked_source, marked_property, inheriting, replaced_source, explicit_source, kept_of, two_extras, one_extra, other_extra, begun};
+ghost use Rattle.dg_base.specs.Worked.{at, arc_from, node_id, whole, three_and_four, ten_large, own_term, marked_source, marked_property, inheriting, replaced_source, explicit_source, kept_of, two_extras, one_extra, other_extra, begun, third_refused, owning, overridden, not_overridden, apart, twice_overridden, twice_populated, done, deletes, sets, connects, disconnects};
 
 /// Two numbers and their sum.
 pub fn adds()
@@ -92,4 +95,41 @@ pub fn steps()
         ≡ Ok (begun three_and_four 4) }
     ensures replaces { connect_step first_tables (begun one_extra 4) (Some (node_id 2)) value (Some (node_id 3)) extra ≡ Ok (begun other_extra 4) }
     ensures too_many { make_step (begun three_and_four 262145) num ≡ Err tx.TooManyNodes }
+{}
+
+/// A transaction whose third step is refused says so, and gives no graph.
+pub fn refuses_the_third()
+    ensures { applied first_tables three_and_four 4 third_refused ≡ Err (record { step = 3; code = tx.NoNode }) }
+{}
+
+/// A cascade tree lists what is owned when it is first met; a deletion takes all of it.
+pub fn cascades()
+    ensures tree { cascade_tree owning_tables owning (node_id 4) ≡ node_id 4 ∷ node_id 3 ∷ node_id 2 ∷ node_id 1 ∷ [] }
+    ensures doomed { doomed owning_tables owning (node_id 3) ≡ node_id 1 ∷ node_id 2 ∷ node_id 3 ∷ [] }
+{}
+
+/// Deleting an override's root takes its override nodes and not the originals, and touches what
+/// went. Deleting an original takes its override nodes.
+pub fn deletes_overrides()
+    ensures root { applied owning_tables overridden 5 (deletes 3) ≡ Ok (done not_overridden 5 (at 3 total ∷ at 4 value ∷ [])) }
+    ensures original { doomed owning_tables overridden (node_id 1) ≡ node_id 1 ∷ node_id 4 ∷ [] }
+{}
+
+/// A source that is connected to an original is populated into its override, and from there into the
+/// override of that.
+pub fn populates()
+    ensures { applied owning_tables twice_overridden 5 (connects 4 value 1 terms)
+        ≡ Ok (done twice_populated 7 (at 1 total ∷ at 2 total ∷ at 3 total ∷ at 5 value ∷ at 6 value ∷ [])) }
+{}
+
+/// A source that is disconnected isn't deleted, though it was owned.
+pub fn keeps_what_is_disconnected()
+    ensures { applied owning_tables not_overridden 3 (disconnects 1 value 2 terms) ≡ Ok (done apart 3 (at 2 total ∷ [])) }
+{}
+
+/// A value that is set touches the property at each heir, and makes dirty what reads it.
+pub fn touches_heirs()
+    ensures touched { applied first_tables inheriting 4 (sets 1 7)
+        ≡ Ok (done (with_value inheriting (node_id 1) value (whole 7)) 4 (at 1 value ∷ at 2 value ∷ at 3 value ∷ [])) }
+    ensures dirty { dirty first_tables three_and_four (at 1 value ∷ []) ≡ at 1 value ∷ at 3 total ∷ [] }
 {}

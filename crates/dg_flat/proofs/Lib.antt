@@ -1,3 +1,10 @@
-pub mod Numbered
-pub mod AfterChanges
 pub mod PlaceLemmas
+pub mod PointLemmas
+pub mod OriginLemmas
+pub mod WayLemmas
+pub mod ChangeLemmas
+pub mod ClearLemmas
+pub mod SetLemmas
+pub mod ReaderLemmas
+pub mod RoundLemmas
+pub mod SettlingLemmas

@@ -29,7 +29,7 @@ IsNothing _ = ⊥
 pub bare_laws : AreTables bare_tables
 bare_laws = record {
   low = λ k l h. absurd (none_below h.0 h.1);
-  once = λ k i j d h below. absurd (none_below j below);
+  rise = λ k. refl;
   known = λ k l h. absurd (none_below h.0 h.1);
   others = λ k l h. absurd (h refl);
   preset_fits = λ k l ty h. absurd (subst IsNothing h tt);

@@ -1,7 +1,9 @@
-ghost use Rattle.std.specs.Prelude.{◌≡◌, ◌+◌, ◌≤◌, ◌++◌, length, take, drop, reverse, insert, vec_len, OnOk, OnErr, IfOk, slice_get};
+ghost use Rattle.std.specs.Prelude.{◌≡◌, ◌+◌, ◌≤◌, ◌++◌, length, take, drop, reverse, insert, vec_len, OnOk, OnErr, IfOk, slice_get, IsTrue, map, filter, not};
 ghost use Rattle.std.specs.Option.{option_copied};
 ghost use Rattle.std.specs.Vec.{vec_capacity};
 ghost use Rattle.dg_base.specs.Graph.{value_in, put_value};
+ghost use Rattle.dg_base.specs.Order.{rises};
+ghost use Rattle.dg_base.specs.Same.{same_label};
 ghost use Rattle.dg_flat.specs.Places.{place_of, has_label};
 
 use dg_base::{Datum, FieldOf, Fields, Label};
@@ -36,6 +38,32 @@ pub(crate) fn put(
         return Ok(());
     }
     insert(alloc, fields, place, field)
+}
+
+/// Equal values, made anew.
+pub(crate) fn copied(alloc: Global, fields: &[FieldOf]) -> Result<Fields, AllocError>
+    ensures { IfOk result (λ all. all ≡ fields.now) }
+{
+    let mut all = Fields::new(alloc);
+    for field in fields {
+        let value = field.value.copy(alloc)?;
+        let label = field.label;
+        if all.push(FieldOf { label, value }).is_err() {
+            return Err(AllocError);
+        }
+    }
+    Ok(all)
+}
+
+/// Takes the value at a label away, if there is one, among values in label order.
+pub(crate) fn clear(fields: &mut Fields, label: Label)
+    requires { IsTrue (rises (map (λ f. f.label.0) fields.old)) }
+    ensures { fields.new ≡ filter (λ f. not (same_label f.label label)) fields.old }
+{
+    let place = place_of(fields.as_slice(), label);
+    if is_labelled(fields.get(place), label) {
+        let _gone = fields.remove(place);
+    }
 }
 
 fn place_of(fields: &[FieldOf], label: Label) -> usize

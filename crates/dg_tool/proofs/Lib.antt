@@ -1,14 +1,5 @@
-pub mod Lines
-pub mod Numbers
 pub mod Sinks
-pub mod FirstForms
-pub mod Totals
+pub mod TextSizes
+pub mod Made
 pub mod Turns
-pub mod Splits
-pub mod Spelling
-pub mod SumNames
-pub mod SumStates
-pub mod SumArcs
-pub mod SumSteps
-pub mod SumTurns
-pub mod SumLines
+pub mod LineCounts

@@ -1,103 +1,93 @@
 -- The play of a script: its commands one after another, each with the text that it prints.
-use Rattle.std.specs.Prelude.{ℕ, ◌+◌, ◌*◌, List, [], ◌∷◌, ◌++◌, Bool, false, cond, ◌==◌, Option, Some, None, Result, Ok, Err, codes, pos, is_some}
-use Rattle.std.specs.Cmp.Lexicographic.{pointwise}
+use Rattle.std.specs.Prelude.{◌≡◌, ◌≤◌, ℕ, List, [], ◌∷◌, Bool, true, cond, Option, Some, None, Result, Ok, Err, nat_le, codes, IsTrue}
+use Rattle.std.specs.List.{list_all}
 use Rattle.dg_base.specs.declared.ids.NodeId.{NodeId}
-use Rattle.dg_base.specs.declared.ids.Kind.{Kind}
-use Rattle.dg_base.specs.declared.ids.Endpoint.{Endpoint}
-use Rattle.dg_base.specs.declared.datum.Datum.TheVariants as datum
-use Rattle.dg_base.specs.declared.step.TxCode.{TxCode}
+use Rattle.dg_base.specs.declared.ids.Label.{Label}
 use Rattle.dg_base.specs.Tables.{Tables}
-use Rattle.dg_base.specs.Graph.{Graph, empty}
-use Rattle.dg_base.specs.Chain.{kind_of}
+use Rattle.dg_base.specs.Graph.{empty}
+use Rattle.dg_base.specs.Sound.{ids_below}
 use Rattle.dg_base.specs.Value.{value_at}
-use Rattle.dg_base.specs.Apply.{Progress, make_step, set_step, connect_step}
-use Rattle.dg_base.specs.First.{num, sum_, value, terms, total}
-use Rattle.dg_tool.specs.declared.bound.Bound.{Bound}
-use Rattle.dg_tool.specs.declared.command.Command.{Command}
-use Rattle.dg_tool.specs.declared.command.Command.TheVariants.{Make, Set, Connect, Ask}
-use Rattle.dg_tool.specs.Form.{commands_of_script}
-use Rattle.dg_tool.specs.Text.{answer_text, refusal_text, line_of}
+use Rattle.dg_base.specs.Touched.{Applied, RefusedStep, applied}
+use Rattle.dg_script.specs.declared.command.Command.{Command}
+use Rattle.dg_script.specs.declared.command.EpWords.{EpWords}
+use Rattle.dg_script.specs.declared.command.StepWords.{StepWords}
+use Rattle.dg_script.specs.declared.command.StepWords.TheVariants as step
+use Rattle.dg_script.specs.declared.command.Act.{Act}
+use Rattle.dg_script.specs.declared.command.Act.TheVariants as act
+use Rattle.dg_bind.specs.Bindings.{Binding, bind}
+use Rattle.dg_bind.specs.Steps.{Taken, Missed, steps_bound}
+use Rattle.dg_bind.specs.Asked.{node_in, label_asked}
+use Rattle.dg_report.specs.Text.{answer_text}
+use Rattle.dg_tool.specs.declared.state.State.{State}
+use Rattle.dg_tool.specs.Text.{ok_text, empty_text, no_name_text, no_label_text, missing_text, code_text, refused_text, line_of}
 
--- the graph, the id of the next node, and the names
-pub record State : Type 0 where
-  pub graph : Graph
-  pub next : ℕ
-  pub bound : List Bound
-
+-- the graph, the id of the next node, the bound names, and the interned ones
 abbrev pub start : State
-start = record { graph = empty; next = 1; bound = [] }
-
-abbrev pub bound_to : List Bound → List ℕ → Option NodeId
-bound_to [] name = None
-bound_to (b ∷ bs) name = cond (pointwise ◌==◌ b.name name) (Some b.node) (bound_to bs name)
-
--- the node of a name, where it is of a kind
-abbrev pub is_kind : Kind → Option Kind → Bool
-is_kind k None = false
-is_kind k (Some other) = other.0 == k.0
-
-abbrev pub of_kind : Graph → Kind → Option NodeId → Option NodeId
-of_kind g k None = None
-of_kind g k (Some n) = cond (is_kind k (kind_of g n)) (Some n) None
-
-abbrev pub node_of : State → Kind → List ℕ → Option NodeId
-node_of s k name = of_kind s.graph k (bound_to s.bound name)
-
--- each command is a transaction of its own
-abbrev pub begun : State → Progress
-begun s = record { graph = s.graph; next = s.next; made = [] }
+start = record { graph = empty; next = 1; bound = []; names = [] }
 
 -- what a command leaves, and the text that it prints
 pub record Turn : Type 0 where
   pub state : State
   pub text : List ℕ
 
-abbrev pub ok_text : List ℕ
-ok_text = codes "ok"
+-- the names of the nodes that were made stand for these nodes
+abbrev pub bind_made : List Binding → List (List ℕ) → List NodeId → List Binding
+bind_made bound [] nodes = bound
+bind_made bound (name ∷ names) [] = bound
+bind_made bound (name ∷ names) (n ∷ ns) = bind_made (bind bound name n) names ns
 
-abbrev pub refused_text : TxCode → List ℕ
-refused_text c = codes "refused step 1 " ++ refusal_text c
+-- all steps are done and the names bound, or nothing is
+abbrev pub committed : State → List (List ℕ) → Result Applied RefusedStep → Turn
+committed s made (Ok a) =
+    record { state = record { graph = a.graph; next = a.next; bound = bind_made s.bound made a.made; names = s.names }; text = ok_text }
+committed s made (Err r) = record { state = s; text = refused_text r.step (code_text r.code) }
 
-abbrev pub after : State → Result Progress TxCode → Turn
-after s (Ok p) = record { state = record { graph = p.graph; next = p.next; bound = s.bound }; text = ok_text }
-after s (Err c) = record { state = s; text = refused_text c }
+-- the names that a transaction interned stay, whether it is refused or not
+abbrev pub interning : State → List (List ℕ) → State
+interning s names = record { graph = s.graph; next = s.next; bound = s.bound; names = names }
 
--- a node that is made gets its name
-abbrev pub named : State → List ℕ → Result Progress TxCode → Turn
-named s name (Ok p) =
-    record { state = record { graph = p.graph; next = p.next; bound = s.bound ++ record { name = name; node = record { 0 = s.next } } ∷ [] }; text = ok_text }
-named s name (Err c) = record { state = s; text = refused_text c }
+abbrev pub tried : Tables → State → Result Taken Missed → Turn
+tried t s (Ok b) = committed (interning s b.names) b.made (applied t s.graph s.next b.steps)
+tried t s (Err m) = record { state = interning s m.names; text = refused_text m.step (missing_text m.missing) }
 
-abbrev pub whole_number : ℕ → ℕ
-whole_number n = n * 1000000000
+-- a transaction of these steps. Names and labels are looked up before the first step is done
+abbrev pub transaction : Tables → State → List StepWords → Turn
+transaction t s [] = record { state = s; text = empty_text }
+transaction t s (w ∷ ws) = tried t s (steps_bound s.bound s.names (w ∷ ws))
 
-abbrev pub set_turn : Tables → State → Option NodeId → ℕ → Option Turn
-set_turn t s None v = None
-set_turn t s (Some n) v = Some (after s (set_step t (begun s) (Some n) value (datum.Dec (pos (whole_number v)))))
+-- a question, which changes nothing
+abbrev pub asked : Tables → State → Option NodeId → Option Label → List ℕ
+asked t s None l = no_name_text
+asked t s (Some n) None = no_label_text
+asked t s (Some n) (Some l) = answer_text (value_at t s.graph (record { node = n; label = l })) s.names
 
-abbrev pub connect_turn : Tables → State → Option NodeId → Option NodeId → Option Turn
-connect_turn t s (Some n) (Some m) = Some (after s (connect_step t (begun s) (Some n) value (Some m) terms))
-connect_turn t s _ _ = None
+abbrev pub ask : Tables → State → EpWords → Turn
+ask t s at = record { state = s; text = asked t s (node_in s.graph s.bound at.node) (label_asked s.names at) }
 
-abbrev pub total_of : NodeId → Endpoint
-total_of n = record { node = n; label = total }
+-- one more name for a node
+abbrev pub alias : State → List ℕ → Option NodeId → Turn
+alias s name None = record { state = s; text = no_name_text }
+alias s name (Some n) =
+    record { state = record { graph = s.graph; next = s.next; bound = bind s.bound name n; names = s.names }; text = ok_text }
 
-abbrev pub ask_turn : Tables → State → Option NodeId → Option Turn
-ask_turn t s None = None
-ask_turn t s (Some n) = Some (record { state = s; text = answer_text (value_at t s.graph (total_of n)) })
+-- the kinds from 10 on aren't made yet
+abbrev pub is_played : StepWords → Bool
+is_played (step.Make kind name) = nat_le kind.0 9
+is_played _ = true
 
-abbrev pub make_turn : State → Kind → List ℕ → Option Turn
-make_turn s kind name = cond (is_some (bound_to s.bound name)) None (Some (named s name (make_step (begun s) kind)))
+abbrev pub if_played : List StepWords → Turn → Option Turn
+if_played ws turn = cond (list_all is_played ws) (Some turn) None
 
--- a command's turn. A script is out of the form where it has none: a name is made twice, isn't made
--- yet, or is a node of another kind than its place asks
-abbrev pub turn_of : Tables → State → Command → Option Turn
-turn_of t s (Make kind name) = make_turn s kind name
-turn_of t s (Set name v) = set_turn t s (node_of s num name) v
-turn_of t s (Connect name sum) = connect_turn t s (node_of s num name) (node_of s sum_ sum)
-turn_of t s (Ask sum) = ask_turn t s (node_of s sum_ sum)
+-- the turn of a command; None where it isn't played yet
+abbrev pub turn_of : Tables → State → Act → Option Turn
+turn_of t s (act.Step w) = if_played (w ∷ []) (transaction t s (w ∷ []))
+turn_of t s (act.Block ws) = if_played ws (transaction t s ws)
+turn_of t s (act.Ask None at) = Some (ask t s at)
+turn_of t s (act.Ask (Some pin) at) = None
+turn_of t s (act.Alias name node) = Some (alias s name (node_in s.graph s.bound node))
+turn_of t s _ = None
 
--- the lines that a script prints from a line on, where it is of the form
+-- the lines that commands print, each with its number in the script; None where one has no turn
 abbrev pub line_before : List ℕ → Option (List (List ℕ)) → Option (List (List ℕ))
 line_before line None = None
 line_before line (Some lines) = Some (line ∷ lines)
@@ -106,14 +96,16 @@ abbrev pub continued : ℕ → Option Turn → (State → Option (List (List ℕ
 continued number None rest = None
 continued number (Some turn) rest = line_before (line_of number turn.text) (rest turn.state)
 
-abbrev pub lines_from : Tables → List Command → ℕ → State → Option (List (List ℕ))
-lines_from t [] number s = Some []
-lines_from t (c ∷ cs) number s = continued number (turn_of t s c) (lines_from t cs (number + 1))
+abbrev pub lines_from : Tables → List Command → State → Option (List (List ℕ))
+lines_from t [] s = Some []
+lines_from t (c ∷ cs) s = continued c.line (turn_of t s c.act) (lines_from t cs)
 
-abbrev pub lines_of_commands : Tables → Option (List Command) → Option (List (List ℕ))
-lines_of_commands t None = None
-lines_of_commands t (Some cs) = lines_from t cs 1 start
+-- every node's id is below the next one, which isn't 0
+pub record IsReady (s : State) : Type 0 where
+  pub some : 1 ≤ s.next
+  pub below : IsTrue (ids_below s.graph s.next)
 
--- the lines that a script prints; None where it isn't of the form
-abbrev pub lines_of_script : Tables → List ℕ → Option (List (List ℕ))
-lines_of_script t bytes = lines_of_commands t (commands_of_script bytes)
+-- what a turn left, and its text
+abbrev pub TurnIs : Option Turn → State → Option (List ℕ) → Type 0
+TurnIs turn now None = turn ≡ None
+TurnIs turn now (Some text) = turn ≡ Some (record { state = now; text = text })

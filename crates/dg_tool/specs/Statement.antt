@@ -15,14 +15,18 @@ sink_fault = 5
 abbrev pub no_memory : ℕ
 no_memory = 6
 
--- a status below these is the one that is due, and the sink has got all lines that are due, an error's
--- one line among them
+-- each other status is one that is due
+abbrev pub IsDue : ℕ → Type 0
+IsDue status = (status ≤ 3) ⊎ (status ≡ 7)
+
+-- such a status is the one that is due, and the sink has got all lines that are due, an error's one
+-- line among them
 pub record IsDone (due : Out) (status : ℕ) (before now : Option (List ℕ)) : Type 0 where
   pub status_due : status ≡ due.status
   pub lines_due : GotAll before now (text_of due.lines)
 
 pub record EndsAs (due : Out) (status : ℕ) (before now : Option (List ℕ)) : Type 0 where
-  pub done : status ≤ 3 → IsDone due status before now
+  pub done : IsDue status → IsDone due status before now
   -- where a file's call failed, nothing was printed; else a first part of the text
   pub files_failed : status ≡ file_fault → now ≡ before
   pub cut_off : (status ≡ sink_fault) ⊎ (status ≡ no_memory) → GotPrefix before now (text_of due.lines)

@@ -1,69 +1,58 @@
--- The printed texts.
-use Rattle.std.specs.Prelude.{ℕ, List, [], ◌∷◌, ◌++◌, cond, codes, ◌==◌}
+-- The printed texts, beside those of answers.
+use Rattle.std.specs.Prelude.{ℕ, List, [], ◌∷◌, ◌++◌, codes}
 use Rattle.std.specs.Fmt.{decimal}
-use Rattle.dg_base.specs.declared.ids.Label.{Label}
-use Rattle.dg_base.specs.declared.ids.Endpoint.{Endpoint}
-use Rattle.dg_base.specs.declared.datum.Datum.{Datum}
-use Rattle.dg_base.specs.declared.datum.Datum.TheVariants as datum
-use Rattle.dg_base.specs.declared.answer.Answer.{Answer}
-use Rattle.dg_base.specs.declared.answer.Answer.TheVariants as answer
-use Rattle.dg_base.specs.declared.answer.Fault.{Fault}
-use Rattle.dg_base.specs.declared.answer.FaultCode.{FaultCode}
-use Rattle.dg_base.specs.declared.answer.FaultCode.TheVariants as code
 use Rattle.dg_base.specs.declared.step.TxCode.{TxCode}
 use Rattle.dg_base.specs.declared.step.TxCode.TheVariants as tx
-use Rattle.dg_decimal.specs.Canonical.{canonical}
+use Rattle.dg_bind.specs.declared.refusal.Missing.{Missing}
+use Rattle.dg_bind.specs.declared.refusal.Missing.TheVariants as missing
+use Rattle.dg_script.specs.declared.command.ScriptCode.{ScriptCode}
+use Rattle.dg_script.specs.declared.command.ScriptCode.TheVariants as bad
 
-abbrev pub code_text : FaultCode → List ℕ
-code_text code.NoEndpoint = codes "NoEndpoint"
-code_text code.Defective = codes "Defective"
-code_text code.Range = codes "Range"
-code_text code.NoResource = codes "NoResource"
-code_text code.DuplicateId = codes "DuplicateId"
-code_text code.PropType = codes "PropType"
-code_text code.BadName = codes "BadName"
-code_text code.TooLong = codes "TooLong"
+abbrev pub ok_text : List ℕ
+ok_text = codes "ok"
 
-abbrev pub refusal_text : TxCode → List ℕ
-refusal_text tx.TooManyNodes = codes "TooManyNodes"
-refusal_text tx.TooManyArcs = codes "TooManyArcs"
-refusal_text tx.NoNode = codes "NoNode"
-refusal_text tx.NotProperty = codes "NotProperty"
-refusal_text tx.ValueType = codes "ValueType"
-refusal_text tx.NotOutput = codes "NotOutput"
-refusal_text tx.NotInput = codes "NotInput"
-refusal_text tx.ArcType = codes "ArcType"
-refusal_text tx.NoArc = codes "NoArc"
+abbrev pub empty_text : List ℕ
+empty_text = codes "Empty"
 
--- the labels of the first schema by their names, another one by its number
-abbrev pub label_text : Label → List ℕ
-label_text l =
-    cond (l.0 == 1) (codes "value") (cond (l.0 == 2) (codes "terms") (cond (l.0 == 3) (codes "extra") (cond (l.0 == 4) (codes "total") (decimal l.0))))
+abbrev pub no_name_text : List ℕ
+no_name_text = codes "NoName"
 
-abbrev pub endpoint_text : Endpoint → List ℕ
-endpoint_text e = decimal e.node.0 ++ codes "." ++ label_text e.label
+abbrev pub no_label_text : List ℕ
+no_label_text = codes "NoLabel"
 
-abbrev pub fault_text : Fault → List ℕ
-fault_text f = endpoint_text f.at ++ codes " " ++ code_text f.code
+-- why a transaction is refused
+abbrev pub missing_text : Missing → List ℕ
+missing_text missing.NoName = no_name_text
+missing_text missing.NoLabel = no_label_text
 
--- faults, joined by a comma and a blank
-abbrev pub more_faults_text : List Fault → List ℕ
-more_faults_text [] = []
-more_faults_text (f ∷ fs) = codes ", " ++ fault_text f ++ more_faults_text fs
+abbrev pub code_text : TxCode → List ℕ
+code_text tx.TooManyNodes = codes "TooManyNodes"
+code_text tx.TooManyArcs = codes "TooManyArcs"
+code_text tx.NoNode = codes "NoNode"
+code_text tx.NotProperty = codes "NotProperty"
+code_text tx.ValueType = codes "ValueType"
+code_text tx.NotOutput = codes "NotOutput"
+code_text tx.NotInput = codes "NotInput"
+code_text tx.ArcType = codes "ArcType"
+code_text tx.NoArc = codes "NoArc"
 
-abbrev pub faults_text : List Fault → List ℕ
-faults_text [] = []
-faults_text (f ∷ fs) = fault_text f ++ more_faults_text fs
+-- a refusal, with the number of the step, from 1
+abbrev pub refused_text : ℕ → List ℕ → List ℕ
+refused_text number why = codes "refused step " ++ decimal number ++ codes " " ++ why
 
--- the values of the first schema are numbers
-abbrev pub value_text : Datum → List ℕ
-value_text (datum.Dec z) = canonical z
-value_text _ = []
+abbrev pub bad_code_text : ScriptCode → List ℕ
+bad_code_text bad.Utf8 = codes "Utf8"
+bad_code_text bad.TooLong = codes "TooLong"
+bad_code_text bad.Value = codes "Value"
+bad_code_text bad.Word = codes "Word"
+bad_code_text bad.InBlock = codes "InBlock"
+bad_code_text bad.NoBlock = codes "NoBlock"
+bad_code_text bad.Arity = codes "Arity"
+bad_code_text bad.OpenBlock = codes "OpenBlock"
 
-abbrev pub answer_text : Answer → List ℕ
-answer_text (answer.Good d) = value_text d
-answer_text (answer.Bad fs) = codes "fault " ++ faults_text fs
-answer_text answer.Cycle = codes "cycle"
+-- a bad line of the script, by its number and its code
+abbrev pub bad_line_text : ℕ → ScriptCode → List ℕ
+bad_line_text line c = codes "script line " ++ decimal line ++ codes " " ++ bad_code_text c
 
 -- a line of the output: the number of the script's line, a colon, a blank and the text
 abbrev pub line_of : ℕ → List ℕ → List ℕ

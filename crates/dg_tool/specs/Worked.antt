@@ -1,20 +1,51 @@
--- A script of which the checker computes what it prints.
-use Rattle.std.specs.Prelude.{ℕ, List, [], ◌∷◌, ◌++◌, codes}
+-- Scripts of which the checker computes what they print.
+use Rattle.std.specs.Prelude.{ℕ, List, ◌∷◌, [], ◌++◌, codes}
 
 abbrev pub line : List ℕ → List ℕ
 line text = text ++ 10 ∷ []
 
--- two numbers and their sum
-abbrev pub adding : List ℕ
-adding =
-    line (codes "make Num a") ++ line (codes "make Num b") ++ line (codes "make Sum s") ++ line (codes "set a.value 3")
-    ++ line (codes "set b.value 4") ++ line (codes "connect a.value s.terms") ++ line (codes "connect b.value s.terms") ++ codes "ask now s.total"
+-- a name that isn't bound, in a step, in a question, and for an alias; and a block without steps
+abbrev pub unbound : List ℕ
+unbound =
+    line (codes "set a.value 1") ++ line (codes "ask now a.value") ++ line (codes "alias b a") ++ line (codes "begin") ++ codes "end"
 
-abbrev pub added : List (List ℕ)
-added =
-    line (codes "1: ok") ∷ line (codes "2: ok") ∷ line (codes "3: ok") ∷ line (codes "4: ok") ∷ line (codes "5: ok") ∷ line (codes "6: ok")
-    ∷ line (codes "7: ok") ∷ line (codes "8: 7") ∷ []
+abbrev pub unbound_lines : List (List ℕ)
+unbound_lines =
+    line (codes "1: refused step 1 NoName") ∷ line (codes "2: NoName") ∷ line (codes "3: NoName") ∷ line (codes "4: Empty") ∷ []
 
--- a name that is used before it is made
-abbrev pub unmade : List ℕ
-unmade = line (codes "ask now s.total") ++ line (codes "make Sum s")
+-- a number is made, set and asked for
+abbrev pub making : List ℕ
+making = line (codes "make Num a") ++ line (codes "set a.value 1.5") ++ codes "ask now a.value"
+
+abbrev pub made_lines : List (List ℕ)
+made_lines = line (codes "1: ok") ∷ line (codes "2: ok") ∷ line (codes "3: 1.5") ∷ []
+
+-- a block that is refused at its third step, and an interned name that stays
+abbrev pub refusing : List ℕ
+refusing =
+    line (codes "make ScriptFile a") ++ line (codes "begin") ++ line (codes "set a:x number \"1\"") ++ line (codes "make Num b")
+    ++ line (codes "set b.text \"t\"") ++ line (codes "end") ++ line (codes "ask now a:x") ++ line (codes "ask now b.value") ++ codes "ask now a:y"
+
+abbrev pub refused_lines : List (List ℕ)
+refused_lines =
+    line (codes "1: ok") ∷ line (codes "2: refused step 3 NotProperty") ∷ line (codes "7: fault 1:x NoEndpoint") ∷ line (codes "8: NoName")
+    ∷ line (codes "9: NoLabel") ∷ []
+
+-- a component that goes with the object that owns it
+abbrev pub deleting : List ℕ
+deleting =
+    line (codes "make GameObject g") ++ line (codes "make ComponentEmbedded c") ++ line (codes "set c.id \"c\"")
+    ++ line (codes "connect c.component g.components") ++ line (codes "delete g") ++ codes "ask now c.id"
+
+abbrev pub deleted_lines : List (List ℕ)
+deleted_lines =
+    line (codes "1: ok") ∷ line (codes "2: ok") ∷ line (codes "3: ok") ∷ line (codes "4: ok") ∷ line (codes "5: ok")
+    ∷ line (codes "6: fault 2.id NoEndpoint") ∷ []
+
+-- a kind that isn't made yet
+abbrev pub unplayed : List ℕ
+unplayed = line (codes "ask now a.value") ++ codes "make Collection c"
+
+-- a block that isn't closed
+abbrev pub unclosed : List ℕ
+unclosed = line (codes "begin") ++ codes "make Num a"

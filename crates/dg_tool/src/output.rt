@@ -1,17 +1,20 @@
 //! What a run has to print, before any of it is put.
-ghost use Rattle.std.specs.Prelude.{◌≡◌, ◌≤◌, map, string_bytes, IfOk, IfSome};
+ghost use Rattle.std.specs.Prelude.{◌≡◌, map, string_bytes, IfOk, IfSome, None, Some};
 ghost use Rattle.std.specs.Option.{option_map};
-ghost use Rattle.dg_base.specs.First.{first_tables};
 ghost use Rattle.dg_files.specs.Outcome.{HasCause};
-ghost use Rattle.dg_tool.specs.Out.{out_of, out_of_lines, error_out, script_named};
-ghost use Rattle.dg_tool.specs.Play.{lines_of_script, lines_from, start};
+ghost use Rattle.dg_kinds_go.specs.Go.{go_tables};
+ghost use Rattle.dg_tool.specs.Out.{out_of, out_of_bytes, out_of_lines, error_out, script_named};
+ghost use Rattle.dg_tool.specs.Play.{lines_from, start};
+ghost use Rattle.dg_tool.specs.Statement.{IsDue};
+ghost use Rattle.dg_tool.specs.Text.{line_of};
 
-use crate::command::Command;
-use crate::play::Play;
-use crate::reading::{self, MAX_SCRIPT};
+use crate::play::turn;
+use crate::size::{MAX_LINES, MAX_SCRIPT, is_large, line_count};
+use crate::state::start;
 use crate::{text, words};
 use dg_base::Steps;
 use dg_files::{Bytes, Files, Got, Refusal};
+use dg_script::{Command, ScriptRefusal, read_script};
 use std::alloc::{AllocError, Global};
 use std::sync::ledger::Ledger;
 
@@ -29,25 +32,25 @@ pub(crate) fn output_of<F: Files, L: Ledger>(
     files: &mut F,
     steps: &mut Steps<L>,
 ) -> Result<Out, Refusal>
-    ensures told { IfOk result (λ o. IfSome (F.tree files.old) (λ t. o ≡ out_of first_tables t (map string_bytes words.now))) }
+    ensures told { IfOk result (λ o. IfSome (F.tree files.old) (λ t. o ≡ out_of go_tables t (map string_bytes words.now))) }
     ensures usage { IfOk result (λ o. o.status ≡ 1 → script_named (map string_bytes words.now) ≡ None) }
     ensures untouched { script_named (map string_bytes words.now) ≡ None → files.new ≡ files.old }
-    ensures status { IfOk result (λ o. o.status ≤ 3) }
+    ensures status { IfOk result (λ o. IsDue o.status) }
     ensures tree { F.tree files.new ≡ F.tree files.old }
     ensures cause { HasCause (F.faults files.old) (F.faults files.new) result }
 {
     match words::script_of(alloc, words) {
         Err(_) => Err(Refusal::NoMemory),
-        Ok(None) => Ok(error(alloc, 1, "usage")?),
+        Ok(None) => Ok(error(alloc, 1, b"usage")?),
         Ok(Some(script)) => match files.read(alloc, script, MAX_SCRIPT)? {
-            Got::Absent => Ok(error(alloc, 2, "no input")?),
-            Got::Longer => Ok(error(alloc, 3, "not built")?),
-            Got::Whole(bytes) => Ok(played(alloc, bytes.as_slice(), steps)?),
+            Got::Absent => Ok(error(alloc, 2, b"no input")?),
+            Got::Longer => Ok(error(alloc, 7, b"too large script")?),
+            Got::Whole(bytes) => Ok(output_of_bytes(alloc, bytes.as_slice(), steps)?),
         },
     }
 }
 
-fn error(alloc: Global, status: u8, what: &str) -> Result<Out, AllocError>
+fn error(alloc: Global, status: u8, what: &[u8]) -> Result<Out, AllocError>
     ensures { IfOk result (λ o. o ≡ error_out status what.now) }
 {
     let mut lines = sqlite_items::Items::new(alloc);
@@ -55,46 +58,79 @@ fn error(alloc: Global, status: u8, what: &str) -> Result<Out, AllocError>
     Ok(Out { status, lines })
 }
 
-fn played<L: Ledger>(alloc: Global, bytes: &[u8], steps: &mut Steps<L>) -> Result<Out, AllocError>
-    ensures { IfOk result (λ o. o ≡ out_of_lines (lines_of_script first_tables bytes.now)) }
-{
-    match lines_of_script(alloc, bytes, steps)? {
-        Some(lines) => Ok(Out {
-            status: 0,
-            lines: sqlite_items::Items::from_vec(lines),
-        }),
-        None => error(alloc, 3, "not built"),
-    }
-}
-
-fn lines_of_script<L: Ledger>(
+/// The output of a script by its bytes, of which there are at most 1 MiB.
+fn output_of_bytes<L: Ledger>(
     alloc: Global,
     bytes: &[u8],
     steps: &mut Steps<L>,
-) -> Result<Option<Vec<Bytes>>, AllocError>
-    ensures { IfOk result (λ r. option_map (λ v. v.items) r ≡ lines_of_script first_tables bytes.now) }
+) -> Result<Out, AllocError>
+    ensures told { IfOk result (λ o. o ≡ out_of_bytes go_tables bytes.now) }
+    ensures status { IfOk result (λ o. IsDue o.status) }
 {
-    match reading::read_script(alloc, bytes)? {
-        Some(commands) => lines_of(alloc, commands.as_slice(), steps),
-        None => Ok(None),
+    if line_count(bytes) > MAX_LINES {
+        return error(alloc, 7, b"too large lines");
+    }
+    match read_script(alloc, bytes) {
+        Ok(script) => played(alloc, script.as_slice(), steps),
+        Err(ScriptRefusal::Bad { line, code }) => {
+            let what = text::bad_line(alloc, line, code)?;
+            error(alloc, 3, what.as_slice())
+        }
+        Err(ScriptRefusal::NoMemory) => Err(AllocError),
     }
 }
 
-/// The lines of a script's commands, or None where a name is out of the form.
+/// The output of a script by its commands.
+fn played<L: Ledger>(
+    alloc: Global,
+    commands: &[Command],
+    steps: &mut Steps<L>,
+) -> Result<Out, AllocError>
+    ensures told { IfOk result (λ o. o ≡ out_of_lines (lines_from go_tables commands.now start)) }
+    ensures status { IfOk result (λ o. IsDue o.status) }
+{
+    match lines_of(alloc, commands, steps)? {
+        Some(lines) => printed(alloc, lines),
+        None => error(alloc, 3, b"not built"),
+    }
+}
+
+fn printed(alloc: Global, lines: Vec<Bytes>) -> Result<Out, AllocError>
+    ensures told { IfOk result (λ o. o ≡ out_of_lines (Some lines.items)) }
+    ensures status { IfOk result (λ o. IsDue o.status) }
+{
+    if is_large(lines.as_slice()) {
+        error(alloc, 7, b"too large text")
+    } else {
+        Ok(Out {
+            status: 0,
+            lines: sqlite_items::Items::from_vec(lines),
+        })
+    }
+}
+
+/// The lines of a script's commands, or None where one has no turn.
 fn lines_of<L: Ledger>(
     alloc: Global,
     commands: &[Command],
     steps: &mut Steps<L>,
 ) -> Result<Option<Vec<Bytes>>, AllocError>
-    ensures { IfOk result (λ r. option_map (λ v. v.items) r ≡ lines_from first_tables commands.now 1 start) }
+    ensures { IfOk result (λ r. option_map (λ v. v.items) r ≡ lines_from go_tables commands.now start) }
 {
-    let mut play = Play::new(alloc);
+    let mut state = start(alloc)?;
     let mut lines = Vec::new(alloc);
-    for (index, command) in commands.iter().enumerate() {
-        match play.turn(command, steps)? {
-            Some(text) => lines.push(text::line(alloc, index + 1, text)?)?,
+    for command in commands {
+        match turn(alloc, &mut state, &command.act, steps)? {
+            Some(text) => lines.push(line_of(alloc, command, text)?)?,
             None => return Ok(None),
         }
     }
     Ok(Some(lines))
+}
+
+/// The line that a command prints.
+fn line_of(alloc: Global, command: &Command, text: Bytes) -> Result<Bytes, AllocError>
+    ensures { IfOk result (λ l. l ≡ line_of command.now.line text) }
+{
+    text::line(alloc, command.line, text)
 }

@@ -1,173 +1,121 @@
 //! The play of a script, command by command.
-ghost use Rattle.std.specs.Prelude.{◌≡◌, ◌+◌, ◌<◌, true, map, is_some, IfOk, IfSome, IsTrue, Some, None};
-ghost use Rattle.std.specs.Option.{option_map, option_copied};
-ghost use Rattle.dg_base.specs.declared.answer.Answer.TheVariants as answer;
-ghost use Rattle.dg_base.specs.declared.schema.ArgVal.TheVariants as arg_val;
-ghost use Rattle.dg_base.specs.Graph.{own_value, has_node};
-ghost use Rattle.dg_base.specs.Chain.{kind_of};
-ghost use Rattle.dg_base.specs.Value.{value_at, answer_of};
-ghost use Rattle.dg_base.specs.First.{num, sum_, value, terms, extra, total, first_tables, number_made, sum_of_args};
-ghost use Rattle.dg_tool.specs.Play.{node_of, is_kind, turn_of, lines_from, start, total_of, make_turn, set_turn, connect_turn, ask_turn, named, after, begun, refused_text, ok_text};
-ghost use Rattle.dg_tool.specs.Text.{answer_text, line_of};
-ghost use Rattle.dg_tool.specs.FirstForm.{TurnIs, number_answer, own_or_zero};
+ghost use Rattle.std.specs.Prelude.{◌≡◌, IfOk, OnOk};
+ghost use Rattle.std.specs.List.{list_all};
+ghost use Rattle.dg_bind.specs.Asked.{node_in};
+ghost use Rattle.dg_kinds_go.specs.Go.{go_tables};
+ghost use Rattle.dg_tool.specs.Play.{IsReady, TurnIs, turn_of, if_played, transaction, is_played, ask, asked, alias};
 
-use crate::bound::{Bound, bound_to};
-use crate::command::{Command, Name};
-use crate::first::{First, NUM, SUM, TERMS, TOTAL, VALUE};
-use crate::{text, total};
-use dg_base::{ArcRec, Datum, Endpoint, Kind, NodeId, Steps, TxCode};
+use crate::state::State;
+use crate::text;
+use crate::transaction::transaction;
+use dg_base::{Endpoint, Label, NodeId, Steps};
+use dg_bind::{label_asked, node_asked};
 use dg_files::Bytes;
-use dg_flat::Graph;
+use dg_script::{Act, EpWords, StepWords};
 use std::alloc::{AllocError, Global};
-use std::marker::Model;
+use std::slice;
 use std::sync::ledger::Ledger;
 
-/// The most node ids, and the most arcs.
-pub const MAX_NODES: usize = 262144;
-
-pub const MAX_ARCS: usize = 1048576;
-
-/// A graph, and the names of its nodes.
-#[derive(Drop)]
-pub(crate) struct Play {
+/// Plays a command, and answers its text; None where it isn't played yet. Where memory is refused the
+/// state isn't used further.
+pub(crate) fn turn<L: Ledger>(
     alloc: Global,
-    graph: Graph<First>,
-    bound: Vec<Bound>,
-}
-
-impl Model for Play {
-    ghost use Rattle.std.specs.Prelude.{◌+◌, length};
-    ghost use Rattle.dg_tool.specs.Play.{State};
-    ghost use Rattle.dg_tool.specs.FirstForm.{IsFirstForm, state_code};
-
-    ghost Value = { State };
-
-    ghost coded = { state_code };
-
-    ghost view = { λ p. record { graph = p.graph; next = length p.graph.nodes + 1; bound = p.bound.items } };
-
-    ghost invariant = { λ p. IsFirstForm p.graph };
-}
-
-impl Play {
-    /// No node yet.
-    pub(crate) fn new(alloc: Global) -> Play
-        ensures { result ≡ start }
-    {
-        Play {
-            alloc,
-            graph: Graph::new(alloc),
-            bound: Vec::new(alloc),
-        }
-    }
-
-    /// Plays a command, and answers its text. None where the script is out of the form.
-    pub(crate) fn turn<L: Ledger>(
-        &mut self,
-        command: &Command,
-        steps: &mut Steps<L>,
-    ) -> Result<Option<Bytes>, AllocError>
-        ensures { IfOk result (TurnIs (turn_of first_tables self.old command.now) self.new) }
-    {
-        match command {
-            Command::Make { kind, name } => self.make(*kind, name.as_slice()),
-            Command::Set { number, value } => self.set(number.as_slice(), *value),
-            Command::Connect { number, sum } => self.connect(number.as_slice(), sum.as_slice()),
-            Command::Ask { sum } => self.ask(sum.as_slice(), steps),
-        }
-    }
-
-    fn make(&mut self, kind: Kind, name: &[u8]) -> Result<Option<Bytes>, AllocError>
-        ensures { IfOk result (TurnIs (make_turn self.old kind name.now) self.new) }
-    {
-        if bound_to(self.bound.as_slice(), name).is_some() {
-            return Ok(None);
-        }
-        if self.graph.node_count() >= MAX_NODES {
-            return Ok(Some(text::refused(self.alloc, TxCode::TooManyNodes)?));
-        }
-        let name = Name::from_slice(self.alloc, name)?;
-        let text = text::ok(self.alloc)?;
-        let node = self.graph.make(kind)?;
-        self.bound.push(Bound { name, node })?;
-        Ok(Some(text))
-    }
-
-    fn set(&mut self, name: &[u8], number: u32) -> Result<Option<Bytes>, AllocError>
-        ensures { IfOk result (TurnIs (set_turn first_tables self.old (node_of self.old num name.now) number) self.new) }
-    {
-        let Some(node) = self.node_of(NUM, name) else {
-            return Ok(None);
-        };
-        let text = text::ok(self.alloc)?;
-        let number = Datum::Dec(i64::from(number) * 1000000000);
-        self.graph.set_value(node, VALUE, number)?;
-        Ok(Some(text))
-    }
-
-    fn connect(&mut self, number: &[u8], sum: &[u8]) -> Result<Option<Bytes>, AllocError>
-        ensures { IfOk result
-            (TurnIs (connect_turn first_tables self.old (node_of self.old num number.now) (node_of self.old sum_ sum.now)) self.new) }
-    {
-        let Some(number) = self.node_of(NUM, number) else {
-            return Ok(None);
-        };
-        let Some(sum) = self.node_of(SUM, sum) else {
-            return Ok(None);
-        };
-        let arc = ArcRec {
-            src: Endpoint {
-                node: number,
-                label: VALUE,
-            },
-            node: sum,
-            input: TERMS,
-        };
-        if self.graph.has_arc(arc) {
-            return Ok(Some(text::ok(self.alloc)?));
-        }
-        if self.graph.arc_count() >= MAX_ARCS {
-            return Ok(Some(text::refused(self.alloc, TxCode::TooManyArcs)?));
-        }
-        let text = text::ok(self.alloc)?;
-        self.graph.add_arc(arc)?;
-        Ok(Some(text))
-    }
-
-    fn ask<L: Ledger>(&self, sum: &[u8], steps: &mut Steps<L>) -> Result<Option<Bytes>, AllocError>
-        ensures { IfOk result (TurnIs (ask_turn first_tables self.now (node_of self.now sum_ sum.now)) self.now) }
-    {
-        let Some(sum) = self.node_of(SUM, sum) else {
-            return Ok(None);
-        };
-        let made = total::total(self.alloc, &self.graph, sum, steps)?;
-        let at = Endpoint {
-            node: sum,
-            label: TOTAL,
-        };
-        Ok(Some(text::made(self.alloc, at, &made)?))
-    }
-
-    /// The node of a name, where it is of a kind.
-    fn node_of(&self, kind: Kind, name: &[u8]) -> Option<NodeId>
-        ensures node { result ≡ node_of self.now kind name.now }
-        ensures kind { IfSome result (λ n. is_kind kind (kind_of self.now.graph n) ≡ true) }
-        ensures there { IfSome result (λ n. IsTrue (has_node self.now.graph n)) }
-    {
-        let node = bound_to(self.bound.as_slice(), name)?;
-        if is_kind(kind, self.graph.kind(node)) {
-            Some(node)
-        } else {
-            None
-        }
-    }
-}
-
-fn is_kind(kind: Kind, other: Option<Kind>) -> bool
-    ensures { result ≡ is_kind kind other }
+    state: &mut State,
+    act: &Act,
+    steps: &mut Steps<L>,
+) -> Result<Option<Bytes>, AllocError>
+    requires { IsReady state.old }
+    ensures turn { IfOk result (TurnIs (turn_of go_tables state.old act.now) state.new) }
+    ensures ready { OnOk result (IsReady state.new) }
 {
-    match other {
-        Some(other) => other.0 == kind.0,
-        None => false,
+    match act {
+        Act::Step(step) => changed(alloc, state, slice::from_ref(step)),
+        Act::Block { steps } => changed(alloc, state, steps.as_slice()),
+        Act::Ask { pin: None, at } => Ok(Some(ask(alloc, state, at, steps)?)),
+        Act::Alias { name, node } => Ok(Some(alias(alloc, state, name.as_str(), node.as_str())?)),
+        Act::Ask { pin: Some(_), .. } | Act::Build { .. } | Act::Evict { .. } => Ok(None),
+        Act::Undo | Act::Redo | Act::Pin { .. } | Act::Drop { .. } => Ok(None),
+    }
+}
+
+fn changed(
+    alloc: Global,
+    state: &mut State,
+    words: &[StepWords],
+) -> Result<Option<Bytes>, AllocError>
+    requires { IsReady state.old }
+    ensures turn { IfOk result (TurnIs (if_played words.now (transaction go_tables state.old words.now)) state.new) }
+    ensures ready { OnOk result (IsReady state.new) }
+{
+    if are_played(words) {
+        Ok(Some(transaction(alloc, state, words)?))
+    } else {
+        Ok(None)
+    }
+}
+
+fn are_played(words: &[StepWords]) -> bool
+    ensures { result ≡ list_all is_played words.now }
+{
+    for step in words {
+        if !is_played(step) {
+            return false;
+        }
+    }
+    true
+}
+
+fn is_played(step: &StepWords) -> bool
+    ensures { result ≡ is_played step.now }
+{
+    match step {
+        StepWords::Make { kind, name: _ } => kind.0 <= 9,
+        _ => true,
+    }
+}
+
+fn ask<L: Ledger>(
+    alloc: Global,
+    state: &State,
+    at: &EpWords,
+    steps: &mut Steps<L>,
+) -> Result<Bytes, AllocError>
+    ensures { IfOk result (λ text. ask go_tables state.now at.now ≡ record { state = state.now; text = text }) }
+{
+    let node = node_asked(alloc, &state.graph, &state.bound, at.node.as_str())?;
+    asked(alloc, state, node, label_asked(&state.names, at), steps)
+}
+
+fn asked<L: Ledger>(
+    alloc: Global,
+    state: &State,
+    node: Option<NodeId>,
+    label: Option<Label>,
+    steps: &mut Steps<L>,
+) -> Result<Bytes, AllocError>
+    ensures { IfOk result (λ text. text ≡ asked go_tables state.now node label) }
+{
+    let Some(node) = node else {
+        return text::no_name(alloc);
+    };
+    let Some(label) = label else {
+        return text::no_label(alloc);
+    };
+    let value = state.graph.plain_value(Endpoint { node, label }, steps)?;
+    text::answer(alloc, value.answer(), &state.names)
+}
+
+fn alias(alloc: Global, state: &mut State, name: &str, node: &str) -> Result<Bytes, AllocError>
+    requires { IsReady state.old }
+    ensures turn { IfOk result
+        (λ text. alias state.old name.now (node_in state.old.graph state.old.bound node.now) ≡ record { state = state.new; text = text }) }
+    ensures ready { OnOk result (IsReady state.new) }
+{
+    match node_asked(alloc, &state.graph, &state.bound, node)? {
+        Some(node) => {
+            state.bound.bind(name, node)?;
+            text::ok(alloc)
+        }
+        None => text::no_name(alloc),
     }
 }

@@ -1,18 +1,15 @@
 //! The printed texts of answers, refusals and lines.
-ghost use Rattle.std.specs.Prelude.{◌≡◌, ◌++◌, [], ◌∷◌, codes, IfOk};
-ghost use Rattle.std.specs.Fmt.{decimal};
-ghost use Rattle.dg_base.specs.Value.{answer_of};
-ghost use Rattle.dg_tool.specs.Play.{ok_text, refused_text};
-ghost use Rattle.dg_tool.specs.Text.{code_text, refusal_text, label_text, endpoint_text, fault_text, faults_text, value_text, answer_text, line_of};
+ghost use Rattle.std.specs.Prelude.{◌≡◌, IfOk};
+ghost use Rattle.dg_report.specs.Text.{answer_text};
+ghost use Rattle.dg_tool.specs.Text.{ok_text, empty_text, no_name_text, no_label_text, missing_text, code_text, refused_text, bad_code_text, bad_line_text, line_of};
 ghost use Rattle.dg_tool.specs.Out.{error_line};
 
-use dg_base::{Datum, Endpoint, FaultCode, Label, Made, TxCode};
+use dg_base::{Answer, Names, TxCode};
+use dg_bind::Missing;
 use dg_files::Bytes;
+use dg_script::ScriptCode;
 use itoa::Buffer;
 use std::alloc::{AllocError, Global};
-
-/// The heaviest value that may be produced.
-pub const MAX_WEIGHT: u64 = 16777216;
 
 pub(crate) fn ok(alloc: Global) -> Result<Bytes, AllocError>
     ensures { IfOk result (λ t. t ≡ ok_text) }
@@ -20,86 +17,65 @@ pub(crate) fn ok(alloc: Global) -> Result<Bytes, AllocError>
     Bytes::from_slice(alloc, b"ok")
 }
 
-pub(crate) fn refused(alloc: Global, code: TxCode) -> Result<Bytes, AllocError>
-    ensures { IfOk result (λ t. t ≡ refused_text code) }
+pub(crate) fn empty(alloc: Global) -> Result<Bytes, AllocError>
+    ensures { IfOk result (λ t. t ≡ empty_text) }
 {
-    let mut text = Vec::from_slice(alloc, b"refused step 1 ")?;
-    text.extend_from_slice(refusal_text(code).as_bytes())?;
-    Ok(Bytes::from_vec(text))
+    Bytes::from_slice(alloc, b"Empty")
 }
 
-/// What a production at an endpoint gives, as an answer's text.
-pub(crate) fn made(alloc: Global, at: Endpoint, made: &Made) -> Result<Bytes, AllocError>
-    ensures { IfOk result (λ t. t ≡ answer_text (answer_of at made.now)) }
+pub(crate) fn no_name(alloc: Global) -> Result<Bytes, AllocError>
+    ensures { IfOk result (λ t. t ≡ no_name_text) }
 {
-    match made {
-        Made::Good(datum) => {
-            if datum.weight() <= MAX_WEIGHT {
-                value(alloc, datum)
-            } else {
-                fault(alloc, at, FaultCode::TooLong)
-            }
-        }
-        Made::Fault(code) => fault(alloc, at, *code),
-    }
+    Bytes::from_slice(alloc, b"NoName")
 }
 
-fn value(alloc: Global, datum: &Datum) -> Result<Bytes, AllocError>
-    ensures { IfOk result (λ t. t ≡ value_text datum.now) }
+pub(crate) fn no_label(alloc: Global) -> Result<Bytes, AllocError>
+    ensures { IfOk result (λ t. t ≡ no_label_text) }
 {
-    match datum {
-        Datum::Dec(number) => Bytes::from_slice(
-            alloc,
-            dg_decimal::print(*number).as_str().as_bytes(),
-        ),
-        Datum::Nil | Datum::Flag(_) | Datum::Text(_) | Datum::Vec3(_) | Datum::Quat(_) => Ok(
-            Bytes::new(alloc),
-        ),
-        Datum::Prop(_) | Datum::List(_) | Datum::Rec(_) => Ok(Bytes::new(alloc)),
-    }
+    Bytes::from_slice(alloc, b"NoLabel")
 }
 
-fn fault(alloc: Global, at: Endpoint, code: FaultCode) -> Result<Bytes, AllocError>
-    ensures { IfOk result (λ t. t ≡ codes "fault " ++ faults_text (record { at = at; code = code } ∷ [])) }
+/// A transaction that names what isn't there in a step, counted from 1.
+pub(crate) fn missing(alloc: Global, step: u32, missing: Missing) -> Result<Bytes, AllocError>
+    ensures { IfOk result (λ t. t ≡ refused_text step (missing_text missing)) }
 {
-    let mut text = Vec::from_slice(alloc, b"fault ")?;
-    text.extend_from_slice(Buffer::new().format(at.node.0).as_bytes())?;
-    text.extend_from_slice(b".")?;
-    push_label(&mut text, at.label)?;
+    refused_for(alloc, step, missing_text(missing))
+}
+
+/// A transaction of which a step can't be done.
+pub(crate) fn refused(alloc: Global, step: u32, code: TxCode) -> Result<Bytes, AllocError>
+    ensures { IfOk result (λ t. t ≡ refused_text step (code_text code)) }
+{
+    refused_for(alloc, step, code_text(code))
+}
+
+fn refused_for(alloc: Global, step: u32, why: &str) -> Result<Bytes, AllocError>
+    ensures { IfOk result (λ t. t ≡ refused_text step why.now) }
+{
+    let mut text = Vec::from_slice(alloc, b"refused step ")?;
+    text.extend_from_slice(Buffer::new().format(step).as_bytes())?;
     text.extend_from_slice(b" ")?;
-    text.extend_from_slice(code_text(code).as_bytes())?;
+    text.extend_from_slice(why.as_bytes())?;
     Ok(Bytes::from_vec(text))
 }
 
-fn push_label(text: &mut Vec<u8>, label: Label) -> Result<(), AllocError>
-    ensures { IfOk result (λ _. text.new.items ≡ text.old.items ++ label_text label) }
+pub(crate) fn answer(alloc: Global, answer: &Answer, names: &Names) -> Result<Bytes, AllocError>
+    ensures { IfOk result (λ t. t ≡ answer_text answer.now names.now) }
 {
-    match label.0 {
-        1 => text.extend_from_slice(b"value"),
-        2 => text.extend_from_slice(b"terms"),
-        3 => text.extend_from_slice(b"extra"),
-        4 => text.extend_from_slice(b"total"),
-        number => text.extend_from_slice(Buffer::new().format(number).as_bytes()),
+    Ok(Bytes::from_vec(dg_report::answer_text(alloc, answer, names)?))
+}
+
+fn missing_text(missing: Missing) -> &'static str
+    ensures { result.now ≡ missing_text missing }
+{
+    match missing {
+        Missing::NoName => "NoName",
+        Missing::NoLabel => "NoLabel",
     }
 }
 
-fn code_text(code: FaultCode) -> &'static str
+fn code_text(code: TxCode) -> &'static str
     ensures { result.now ≡ code_text code }
-{
-    match code {
-        FaultCode::NoEndpoint => "NoEndpoint",
-        FaultCode::Defective => "Defective",
-        FaultCode::Range => "Range",
-        FaultCode::NoResource => "NoResource",
-        FaultCode::DuplicateId => "DuplicateId",
-        FaultCode::PropType => "PropType",
-        FaultCode::BadName => "BadName",
-        FaultCode::TooLong => "TooLong",
-    }
-}
-
-fn refusal_text(code: TxCode) -> &'static str
-    ensures { result.now ≡ refusal_text code }
 {
     match code {
         TxCode::TooManyNodes => "TooManyNodes",
@@ -114,8 +90,34 @@ fn refusal_text(code: TxCode) -> &'static str
     }
 }
 
+fn bad_code_text(code: ScriptCode) -> &'static str
+    ensures { result.now ≡ bad_code_text code }
+{
+    match code {
+        ScriptCode::Utf8 => "Utf8",
+        ScriptCode::TooLong => "TooLong",
+        ScriptCode::Value => "Value",
+        ScriptCode::Word => "Word",
+        ScriptCode::InBlock => "InBlock",
+        ScriptCode::NoBlock => "NoBlock",
+        ScriptCode::Arity => "Arity",
+        ScriptCode::OpenBlock => "OpenBlock",
+    }
+}
+
+/// What is said of a bad line of the script.
+pub(crate) fn bad_line(alloc: Global, line: u32, code: ScriptCode) -> Result<Bytes, AllocError>
+    ensures { IfOk result (λ t. t ≡ bad_line_text line code) }
+{
+    let mut text = Vec::from_slice(alloc, b"script line ")?;
+    text.extend_from_slice(Buffer::new().format(line).as_bytes())?;
+    text.extend_from_slice(b" ")?;
+    text.extend_from_slice(bad_code_text(code).as_bytes())?;
+    Ok(Bytes::from_vec(text))
+}
+
 /// A line of the output: the number of the script's line, and its text.
-pub(crate) fn line(alloc: Global, number: usize, text: Bytes) -> Result<Bytes, AllocError>
+pub(crate) fn line(alloc: Global, number: u32, text: Bytes) -> Result<Bytes, AllocError>
     ensures { IfOk result (λ l. l ≡ line_of number text) }
 {
     let mut line = Vec::from_slice(alloc, Buffer::new().format(number).as_bytes())?;
@@ -126,11 +128,11 @@ pub(crate) fn line(alloc: Global, number: usize, text: Bytes) -> Result<Bytes, A
 }
 
 /// The one line of an error.
-pub(crate) fn error(alloc: Global, what: &str) -> Result<Bytes, AllocError>
+pub(crate) fn error(alloc: Global, what: &[u8]) -> Result<Bytes, AllocError>
     ensures { IfOk result (λ l. l ≡ error_line what.now) }
 {
     let mut line = Vec::from_slice(alloc, b"error: ")?;
-    line.extend_from_slice(what.as_bytes())?;
+    line.extend_from_slice(what)?;
     line.extend_from_slice(b"\n")?;
     Ok(Bytes::from_vec(line))
 }

@@ -2,8 +2,8 @@
 ghost use Rattle.std.specs.Prelude.{◌≡◌, List, map, string_bytes, IfOk};
 ghost use Rattle.std.specs.List.{slice_split, list_all};
 ghost use Rattle.std.specs.Option.{option_map};
+ghost use Rattle.dg_script.specs.Forms.{is_word};
 ghost use Rattle.dg_tool.specs.Out.{is_slash, is_segment, are_segments, is_project_path, script_named};
-ghost use Rattle.dg_tool.specs.Form.{is_word};
 
 use std::alloc::{AllocError, Global};
 

@@ -1,17 +1,34 @@
 //! Worked cases: each function here has an empty body, and its contract states what the definitions
 //! give for a script of `specs/Worked.antt`. The checker computes them.
-ghost use Rattle.std.specs.Prelude.{◌≡◌, [], Some, None};
-ghost use Rattle.dg_base.specs.First.{first_tables};
-ghost use Rattle.dg_tool.specs.Play.{lines_of_script};
-ghost use Rattle.dg_tool.specs.Worked.{adding, added, unmade};
+ghost use Rattle.std.specs.Prelude.{◌≡◌, [], codes};
+ghost use Rattle.dg_kinds_go.specs.Go.{go_tables};
+ghost use Rattle.dg_tool.specs.Out.{out_of_bytes, not_built, error_out};
+ghost use Rattle.dg_tool.specs.Worked.{unbound, unbound_lines, making, made_lines, refusing, refused_lines, deleting, deleted_lines, unplayed, unclosed};
 
-/// Two numbers and their sum, line by line.
-pub fn adds()
-    ensures { lines_of_script first_tables adding ≡ Some added }
+/// A name that isn't bound, and a block without steps.
+pub fn misses()
+    ensures { out_of_bytes go_tables unbound ≡ record { status = 0; lines = unbound_lines } }
 {}
 
-/// An empty script prints nothing. A script that uses a name before it is made is out of the form.
+/// A number that is made, set and asked for.
+pub fn makes()
+    ensures { out_of_bytes go_tables making ≡ record { status = 0; lines = made_lines } }
+{}
+
+/// A block that is refused leaves nothing but the name that it interned.
+pub fn refuses()
+    ensures { out_of_bytes go_tables refusing ≡ record { status = 0; lines = refused_lines } }
+{}
+
+/// A component goes with the object that owns it.
+pub fn deletes()
+    ensures { out_of_bytes go_tables deleting ≡ record { status = 0; lines = deleted_lines } }
+{}
+
+/// An empty script prints nothing. A kind that isn't made yet isn't built. A block that isn't closed
+/// is bad at its first line.
 pub fn reads()
-    ensures empty { lines_of_script first_tables [] ≡ Some [] }
-    ensures unmade { lines_of_script first_tables unmade ≡ None }
+    ensures empty { out_of_bytes go_tables [] ≡ record { status = 0; lines = [] } }
+    ensures unplayed { out_of_bytes go_tables unplayed ≡ not_built }
+    ensures unclosed { out_of_bytes go_tables unclosed ≡ error_out 3 (codes "script line 1 OpenBlock") }
 {}

@@ -1,0 +1,5 @@
+pub mod NameMaps
+pub mod Joins
+pub mod Places
+pub mod Overrides
+pub mod Latest

@@ -1,0 +1,25 @@
+use Rattle.std.proofs.Common.{◌≡◌, [], rules, subst, map, length}
+use Rattle.std.specs.Result.{IfOk}
+use Rattle.indexmap.specs.IndexSet.{insert_all}
+use Rattle.dg_base.specs.declared.answer.Answer.{Answer}
+use Rattle.dg_base.specs.Same.{same_end}
+use Rattle.dg_base.specs.Rule.{endpoints}
+use Rattle.dg_flat.specs.Settling.{known, asked_at, first_answer_of, answers_after}
+use Rattle.dg_flat.proofs.SettlingLemmas.{table_made}
+use Rattle.dg_flat.proofs.graph.Graph.plain_value.Goals as goal
+
+pub returns : goal.returns
+returns g c =
+    let t = g.S.Schema.tables in
+    let graph = c.args.self.now in
+    let keys = c.in_ok-ends.ends.keys in
+    let asked = c.in_ok-asked.asked.items in
+    let first = c.in_ok-first.first.items in
+    let answers = c.in_ok-answers.answers.items in
+    let ends_is : c.in_ok-ends.ends.keys ≡ insert_all same_end [] (endpoints t c.args.self.now) = search rules in
+    let asked_is : c.in_ok-asked.asked.items ≡ map (asked_at t c.args.self.now) c.in_ok-ends.ends.keys = search rules in
+    let first_is : c.in_ok-first.first.items ≡ map (first_answer_of t) c.in_ok-asked.asked.items = search rules in
+    let answers_is : c.in_ok-answers.answers.items ≡ answers_after (length c.in_ok-asked.asked.items) t c.in_ok-ends.ends.keys c.in_ok-asked.asked.items c.in_ok-first.first.items = search rules in
+    let found : IfOk c.known.result (λ v. v ≡ known c.in_ok-ends.ends.keys c.in_ok-answers.answers.items c.args.at) = search rules in
+    subst (λ (z : Answer). IfOk c.known.result (λ v. v ≡ z))
+    (table_made c.node_count-nodes.ensures.sound g.met.S.Schema.laws keys asked first answers c.args.at ends_is asked_is first_is answers_is) found

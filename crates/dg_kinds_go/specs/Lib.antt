@@ -1,0 +1,12 @@
+-- In reading order: each module uses only the ones before it.
+pub mod Labels
+pub mod Kinds
+pub mod Values
+pub mod Words
+pub mod Sum
+pub mod Join
+pub mod Files
+pub mod Components
+pub mod Objects
+pub mod Go
+pub mod Worked

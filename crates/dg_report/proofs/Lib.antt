@@ -1,0 +1,4 @@
+pub mod Rows
+pub mod Escapes
+pub mod Characters
+pub mod ReadBack

@@ -1,0 +1,17 @@
+-- Quoted text.
+use Rattle.std.specs.Prelude.{ℕ, ◌+◌, ◌/◌, ◌%◌, ◌||◌, List, [], ◌∷◌, ◌++◌, ◌==◌, nat_lt, if◌then◌else◌}
+use Rattle.std.specs.List.{flat_map}
+
+-- A byte between quotes: `\"`, `\\`, `\n`, `\r`, `\t`, a backslash and three octal digits for what
+-- else is below 32 and for 127, and else the byte itself.
+unfoldable pub escaped : ℕ → List ℕ
+escaped b =
+    if b == 34 then 92 ∷ 34 ∷ [] else
+    (if b == 92 then 92 ∷ 92 ∷ [] else
+    (if b == 10 then 92 ∷ 110 ∷ [] else
+    (if b == 13 then 92 ∷ 114 ∷ [] else
+    (if b == 9 then 92 ∷ 116 ∷ [] else
+    (if (nat_lt b 32 || b == 127) then 92 ∷ (48 + b / 64) ∷ (48 + b / 8 % 8) ∷ (48 + b % 8) ∷ [] else b ∷ [])))))
+
+abbrev pub quoted : List ℕ → List ℕ
+quoted text = 34 ∷ flat_map escaped text ++ 34 ∷ []
