@@ -1,0 +1,4 @@
+pub mod Utf8Tests
+pub mod EscapedBytes
+pub mod QuotedCharacters
+pub mod LastMarks
