@@ -17,6 +17,7 @@ use Rattle.dg_base.specs.declared.schema.ArgVal.TheVariants as arg_val
 use Rattle.dg_base.specs.declared.schema.Made.{Made}
 use Rattle.dg_base.specs.declared.schema.Made.TheVariants as made
 use Rattle.dg_base.specs.Tables.{Tables}
+use Rattle.dg_base.specs.Value.{made_good}
 
 -- the kinds Num and Sum; the property value of a Num; the inputs terms and extra and the output
 -- total of a Sum
@@ -82,7 +83,7 @@ abbrev pub is_in_range : ℤ → Bool
 is_in_range z = int_le (negsuc 9223372036854775807) z && int_le z (pos 9223372036854775807)
 
 abbrev pub number_made : ℤ → Made
-number_made z = cond (is_in_range z) (made.Good (datum.Dec z)) (made.Fault code.Range)
+number_made z = cond (is_in_range z) (made_good (datum.Dec z)) (made.Fault code.Range)
 
 abbrev pub first_tables : Tables
 first_tables = record {

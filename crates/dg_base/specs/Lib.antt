@@ -2,6 +2,7 @@
 pub mod Weight
 pub mod Same
 pub mod Order
+pub mod Role
 pub mod Tables
 pub mod Graph
 pub mod Chain
@@ -11,11 +12,16 @@ pub mod Value
 pub mod Sound
 pub mod Walk
 pub mod Owned
-pub mod Laws
-pub mod Apply
+pub mod Refusal
+pub mod Changes
+pub mod Progress
+pub mod Populate
+pub mod Steps
 pub mod Touched
+pub mod Transact
 pub mod Dirty
+pub mod Evaluation
+pub mod Laws
 pub mod First
 pub mod Worked
 pub mod Names
-pub mod Labels

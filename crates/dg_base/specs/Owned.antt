@@ -1,6 +1,6 @@
 -- What a node owns through its cascading inputs, its cascade tree, and what goes with it when it is
 -- deleted.
-use Rattle.std.specs.Prelude.{List, [], ◌∷◌, ◌++◌, Bool, false, Option, Some, None, map, filter, filter_map, flat_map, length}
+use Rattle.std.specs.Prelude.{ℕ, suc, List, [], ◌∷◌, ◌++◌, Bool, false, Option, Some, None, map, filter, filter_map, flat_map, length}
 use Rattle.dg_base.specs.declared.ids.NodeId.{NodeId}
 use Rattle.dg_base.specs.declared.ids.Label.{Label}
 use Rattle.dg_base.specs.declared.ids.Kind.{Kind}
@@ -8,24 +8,19 @@ use Rattle.dg_base.specs.declared.ids.Endpoint.{Endpoint}
 use Rattle.dg_base.specs.declared.graph.Node.{Node}
 use Rattle.dg_base.specs.declared.graph.Origin.{Origin}
 use Rattle.dg_base.specs.declared.graph.Origin.TheVariants as origin
-use Rattle.dg_base.specs.declared.schema.Role.{Role}
-use Rattle.dg_base.specs.declared.schema.Role.TheVariants as role
 use Rattle.dg_base.specs.Same.{same_node}
+use Rattle.dg_base.specs.Role.{cascades}
 use Rattle.dg_base.specs.Tables.{Tables}
 use Rattle.dg_base.specs.Graph.{Graph, node_at, override_in, explicit_sources}
 use Rattle.dg_base.specs.Chain.{kind_of}
 use Rattle.dg_base.specs.Sources.{sources}
-use Rattle.dg_base.specs.Order.{is_node_among}
+use Rattle.dg_base.specs.Order.{ordered_nodes}
 use Rattle.dg_base.specs.Walk.{walk_within}
 
-abbrev pub is_cascade : Role → Bool
-is_cascade (role.Input ty array cascade substitute) = cascade
-is_cascade _ = false
-
 -- the cascading inputs of a kind, in label order
-abbrev pub cascades : Tables → Option Kind → List Label
-cascades t None = []
-cascades t (Some k) = filter (λ l. is_cascade (t.role k l)) (t.labels k)
+abbrev pub cascading_inputs : Tables → Option Kind → List Label
+cascading_inputs t None = []
+cascading_inputs t (Some k) = filter (λ l. cascades (t.role k l)) (t.labels k)
 
 -- the override nodes, in the node's own override, of the sources that it inherits
 abbrev pub owned_by_origin : Graph → Label → Origin → List NodeId
@@ -45,11 +40,15 @@ abbrev pub owned_through : Graph → NodeId → Label → List NodeId
 owned_through g n i = nodes_or (explicit_sources g n i) (owned_over g i (node_at g n))
 
 abbrev pub owned : Tables → Graph → NodeId → List NodeId
-owned t g n = flat_map (owned_through g n) (cascades t (kind_of g n))
+owned t g n = flat_map (owned_through g n) (cascading_inputs t (kind_of g n))
 
--- a way down a cascade tree meets each node once, so the number of nodes is enough
+-- a way meets each node of the graph once, and begins at a node that may not be one, so one level more
+-- than there are nodes is enough
+abbrev pub enough_levels : Graph → ℕ
+enough_levels g = suc (length g.nodes)
+
 abbrev pub cascade_tree : Tables → Graph → NodeId → List NodeId
-cascade_tree t g n = walk_within (length g.nodes) (owned t g) [] n
+cascade_tree t g n = walk_within same_node (enough_levels g) (owned t g) [] n
 
 -- the override nodes whose original is this node, in id order
 abbrev pub is_over : NodeId → Origin → Bool
@@ -64,8 +63,5 @@ abbrev pub taken_with : Tables → Graph → NodeId → List NodeId
 taken_with t g n = overs g n ++ owned t g n
 
 -- in id order
-abbrev pub among_nodes : Graph → List NodeId → List NodeId
-among_nodes g ns = filter (is_node_among ns) (map (λ x. x.id) g.nodes)
-
 abbrev pub doomed : Tables → Graph → NodeId → List NodeId
-doomed t g n = among_nodes g (walk_within (length g.nodes) (taken_with t g) [] n)
+doomed t g n = ordered_nodes (walk_within same_node (enough_levels g) (taken_with t g) [] n)

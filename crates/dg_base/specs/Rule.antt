@@ -1,9 +1,10 @@
 -- The rule of an endpoint says how its value is found, and the dependencies are the endpoints that
 -- the rule names, in order.
-use Rattle.std.specs.Prelude.{List, [], ◌∷◌, ◌++◌, Bool, true, false, cond, ◌&&◌, Option, Some, None, map, filter, filter_map, nat_le, is_some}
+use Rattle.std.specs.Prelude.{List, [], ◌∷◌, ◌++◌, Bool, cond, ◌&&◌, Option, Some, None, map, filter, filter_map, flat_map, nat_le, is_some}
 use Rattle.std.specs.List.{list_any}
 use Rattle.dg_base.specs.declared.ids.NodeId.{NodeId}
 use Rattle.dg_base.specs.declared.ids.Label.{Label}
+use Rattle.dg_base.specs.declared.ids.TheConstants.{FIRST_OPEN}
 use Rattle.dg_base.specs.declared.ids.Kind.{Kind}
 use Rattle.dg_base.specs.declared.ids.Endpoint.{Endpoint}
 use Rattle.dg_base.specs.declared.datum.Datum.{Datum}
@@ -21,6 +22,7 @@ use Rattle.dg_base.specs.declared.schema.Role.{Role}
 use Rattle.dg_base.specs.declared.schema.Role.TheVariants as role
 use Rattle.dg_base.specs.declared.schema.ArgSpec.{ArgSpec}
 use Rattle.dg_base.specs.declared.schema.ArgSpec.TheVariants as arg
+use Rattle.dg_base.specs.Role.{is_given}
 use Rattle.dg_base.specs.Tables.{Tables}
 use Rattle.dg_base.specs.Graph.{Graph, value_in, put_value}
 use Rattle.dg_base.specs.Chain.{chain, kind_along}
@@ -28,7 +30,7 @@ use Rattle.dg_base.specs.Sources.{sources}
 
 -- a label from 1,024 upward is the name of an open property
 abbrev pub is_open_label : Label → Bool
-is_open_label l = nat_le 1024 l.0
+is_open_label l = nat_le FIRST_OPEN l.0
 
 -- the values of the first list, and those of the second at other labels, in label order
 abbrev pub overlaid : List FieldOf → List FieldOf → List FieldOf
@@ -99,8 +101,7 @@ named_by_arg (arg_rule.Input i ss) = ss
 named_by_arg (arg_rule.Open ps) = []
 
 abbrev pub named_by_args : List ArgRule → List Endpoint
-named_by_args [] = []
-named_by_args (a ∷ as_) = named_by_arg a ++ named_by_args as_
+named_by_args args = flat_map named_by_arg args
 
 abbrev pub named_by : Rule → List Endpoint
 named_by (rule.From e) = e ∷ []
@@ -112,11 +113,6 @@ dependencies t g e = named_by (rule_of t g e)
 
 -- the endpoints of a node: the properties and outputs of its kind, then the open labels that have a
 -- value on some node of its chain
-abbrev pub is_given : Role → Bool
-is_given (role.Property ty) = true
-is_given (role.Output ty cached) = true
-is_given _ = false
-
 abbrev pub given_labels : Tables → List Node → Option Kind → List Label
 given_labels t xs None = []
 given_labels t xs (Some k) =
@@ -128,12 +124,5 @@ ends_of n ls = map (λ l. record { node = n; label = l }) ls
 abbrev pub endpoints_at : Tables → Graph → NodeId → List Endpoint
 endpoints_at t g n = ends_of n (given_labels t (chain g n) (kind_along (chain g n)))
 
-abbrev pub endpoints_of : Tables → Graph → Node → List Endpoint
-endpoints_of t g x = endpoints_at t g x.id
-
-abbrev pub endpoints_in : Tables → Graph → List Node → List Endpoint
-endpoints_in t g [] = []
-endpoints_in t g (x ∷ xs) = endpoints_of t g x ++ endpoints_in t g xs
-
 abbrev pub endpoints : Tables → Graph → List Endpoint
-endpoints t g = endpoints_in t g g.nodes
+endpoints t g = flat_map (λ x. endpoints_at t g x.id) g.nodes

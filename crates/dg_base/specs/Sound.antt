@@ -6,7 +6,6 @@ use Rattle.dg_base.specs.declared.ids.Label.{Label}
 use Rattle.dg_base.specs.declared.ids.Kind.{Kind}
 use Rattle.dg_base.specs.declared.ids.ArcRec.{ArcRec}
 use Rattle.dg_base.specs.declared.datum.Datum.{Datum}
-use Rattle.dg_base.specs.declared.datum.Datum.TheVariants as datum
 use Rattle.dg_base.specs.declared.datum.FieldOf.{FieldOf}
 use Rattle.dg_base.specs.declared.graph.Node.{Node}
 use Rattle.dg_base.specs.declared.graph.Origin.{Origin}
@@ -14,8 +13,9 @@ use Rattle.dg_base.specs.declared.graph.Origin.TheVariants as origin
 use Rattle.dg_base.specs.declared.schema.Ty.{Ty}
 use Rattle.dg_base.specs.declared.schema.Role.{Role}
 use Rattle.dg_base.specs.declared.schema.Role.TheVariants as role
-use Rattle.dg_base.specs.Same.{same_node, same_arc, same_ty, same_label}
-use Rattle.dg_base.specs.Tables.{Tables, has_type}
+use Rattle.dg_base.specs.Same.{same_node, same_arc, same_ty}
+use Rattle.dg_base.specs.Role.{given, taken, is_array, has_type, is_prop_named}
+use Rattle.dg_base.specs.Tables.{Tables}
 use Rattle.dg_base.specs.Graph.{Graph, node_at, has_node, overrides, arcs_into}
 use Rattle.dg_base.specs.Chain.{kind_of}
 use Rattle.dg_base.specs.Rule.{is_open_label}
@@ -50,10 +50,6 @@ is_only_override g (origin.Over root original) = nat_le (length (filter (λ x. o
 
 -- what a value has to be at a label of a kind: of the property's type, or, at an open label of an
 -- open kind, an open property of that name
-abbrev pub is_prop_named : Label → Datum → Bool
-is_prop_named l (datum.Prop p) = same_label p.name l
-is_prop_named l _ = false
-
 abbrev pub may_be_set : Bool → Label → Datum → Role → Bool
 may_be_set opens l v (role.Property ty) = has_type ty v
 may_be_set opens l v role.Nothing = opens && (is_open_label l && is_prop_named l v)
@@ -76,20 +72,7 @@ role_by t (Some k) l = t.role k l
 abbrev pub role_at : Tables → Graph → NodeId → Label → Role
 role_at t g n l = role_by t (kind_of g n) l
 
--- the type that a property or output gives, and the type that an input takes
-abbrev pub given_type : Role → Option Ty
-given_type (role.Property ty) = Some ty
-given_type (role.Output ty cached) = Some ty
-given_type _ = None
-
-abbrev pub taken_type : Role → Option Ty
-taken_type (role.Input ty array cascade substitute) = Some ty
-taken_type _ = None
-
-abbrev pub is_array : Role → Bool
-is_array (role.Input ty array cascade substitute) = array
-is_array _ = false
-
+-- whether both are types, and equal
 abbrev pub agree : Option Ty → Option Ty → Bool
 agree (Some a) (Some b) = same_ty a b
 agree _ _ = false
@@ -98,7 +81,7 @@ agree _ _ = false
 abbrev pub arc_fits : Tables → Graph → ArcRec → Bool
 arc_fits t g a =
     ((has_node g a.src.node && has_node g a.node)
-    && agree (given_type (role_at t g a.src.node a.src.label)) (taken_type (role_at t g a.node a.input)))
+    && agree (given (role_at t g a.src.node a.src.label)) (taken (role_at t g a.node a.input)))
     && (is_array (role_at t g a.node a.input) || nat_le (length (arcs_into g a.node a.input)) 1)
 
 -- each arc stands once
@@ -116,3 +99,10 @@ pub record IsSound (t : Tables) (g : Graph) : Type 0 where
 -- each id is below this one
 abbrev pub ids_below : Graph → ℕ → Bool
 ids_below g next = list_all (λ x. nat_lt x.id.0 next) g.nodes
+
+-- what reads along chains rest on: ids rise, and originals and the ends of arcs are there. Each sound
+-- graph is linked
+pub record IsLinked (g : Graph) : Type 0 where
+  pub ids_rise : IsTrue (rises (map (λ x. x.id.0) g.nodes))
+  pub origins_fit : IsTrue (list_all (λ x. origin_fits g x.id x.origin) g.nodes)
+  pub arcs_there : IsTrue (list_all (λ a. has_node g a.src.node && has_node g a.node) g.arcs)

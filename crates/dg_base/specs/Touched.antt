@@ -1,30 +1,25 @@
--- The endpoints that a step touches, from the graphs before and after it, and those of a transaction.
-use Rattle.std.specs.Prelude.{ℕ, ◌+◌, List, [], ◌∷◌, ◌++◌, Bool, true, false, cond, Option, Some, None, Result, Ok, Err, map, filter, flat_map, nat_le}
+-- The endpoints that a step touches, from the graphs before and after it.
+use Rattle.std.specs.Prelude.{ℕ, List, [], ◌∷◌, ◌++◌, Bool, true, false, cond, Option, Some, None, map, filter, flat_map, nat_le}
 use Rattle.std.specs.List.{list_any}
 use Rattle.dg_base.specs.declared.ids.NodeId.{NodeId}
 use Rattle.dg_base.specs.declared.ids.Label.{Label}
 use Rattle.dg_base.specs.declared.ids.Kind.{Kind}
 use Rattle.dg_base.specs.declared.ids.Endpoint.{Endpoint}
-use Rattle.dg_base.specs.declared.schema.Role.{Role}
-use Rattle.dg_base.specs.declared.schema.Role.TheVariants as role
 use Rattle.dg_base.specs.declared.schema.ArgSpec.{ArgSpec}
 use Rattle.dg_base.specs.declared.schema.ArgSpec.TheVariants as arg
 use Rattle.dg_base.specs.declared.step.Step.{Step}
 use Rattle.dg_base.specs.declared.step.Step.TheVariants as step
-use Rattle.dg_base.specs.declared.step.TxCode.{TxCode}
 use Rattle.dg_base.specs.Same.{same_label}
-use Rattle.dg_base.specs.Order.{is_node_among, ordered}
+use Rattle.dg_base.specs.Order.{is_node_among}
+use Rattle.dg_base.specs.Role.{is_output}
 use Rattle.dg_base.specs.Tables.{Tables}
 use Rattle.dg_base.specs.Graph.{Graph}
 use Rattle.dg_base.specs.Chain.{kind_of, heirs}
 use Rattle.dg_base.specs.Sources.{sources}
 use Rattle.dg_base.specs.Rule.{is_open_label, ends_of, endpoints_at}
 use Rattle.dg_base.specs.Owned.{doomed}
-use Rattle.dg_base.specs.Apply.{Progress, node_named, step_of}
-
-abbrev pub is_output : Role → Bool
-is_output (role.Output ty cached) = true
-is_output _ = false
+use Rattle.dg_base.specs.Progress.{Progress}
+use Rattle.dg_base.specs.Steps.{node_named}
 
 abbrev pub outputs : Tables → Option Kind → List Label
 outputs t None = []
@@ -101,27 +96,3 @@ touched_by t p q (step.Connect s l n i) =
 touched_by t p q (step.Disconnect s l n i) = touched_readers t p.graph (node_named p n) i
 touched_by t p q (step.Delete n) = touched_doomed t p.graph (node_named p n)
 touched_by t p q (step.Mark n defective) = touched_outputs t p.graph (node_named p n)
-
--- what a transaction gives: the graph, the next id, the ids that its making steps made, and what all
--- its steps touched, in endpoint order, each once; or the first step that is refused, counted from 1
-pub record Applied : Type 0 where
-  pub graph : Graph
-  pub next : ℕ
-  pub made : List NodeId
-  pub touched : List Endpoint
-
-pub record RefusedStep : Type 0 where
-  pub step : ℕ
-  pub code : TxCode
-
-abbrev pub refused_or : ℕ → Result Progress TxCode → (Progress → Result Applied RefusedStep) → Result Applied RefusedStep
-refused_or number (Ok p) next = next p
-refused_or number (Err c) next = Err (record { step = number; code = c })
-
-abbrev pub applied_from : Tables → List Step → ℕ → Progress → List Endpoint → Result Applied RefusedStep
-applied_from t [] number p touched = Ok (record { graph = p.graph; next = p.next; made = p.made; touched = ordered touched })
-applied_from t (s ∷ ss) number p touched =
-    refused_or number (step_of t p s) (λ q. applied_from t ss (number + 1) q (touched ++ touched_by t p q s))
-
-abbrev pub applied : Tables → Graph → ℕ → List Step → Result Applied RefusedStep
-applied t g next ss = applied_from t ss 1 (record { graph = g; next = next; made = [] }) []

@@ -1,6 +1,6 @@
 -- The value of an endpoint by plain evaluation: every dependency is evaluated afresh. Fuel bounds
 -- the depth, and what isn't settled when it is used up is a cycle.
-use Rattle.std.specs.Prelude.{ℕ, zero, suc, List, [], ◌∷◌, ◌++◌, Bool, true, false, cond, not, ◌&&◌, map, filter, take, length, nat_le}
+use Rattle.std.specs.Prelude.{ℕ, zero, suc, List, [], ◌∷◌, Bool, true, false, cond, not, ◌&&◌, map, filter, flat_map, take, length, nat_le}
 use Rattle.std.specs.List.{list_any}
 use Rattle.dg_base.specs.declared.ids.Label.{Label}
 use Rattle.dg_base.specs.declared.ids.Kind.{Kind}
@@ -35,6 +35,11 @@ max_weight = 16777216
 abbrev pub max_faults : ℕ
 max_faults = 64
 
+-- a good answer
+abbrev pub good : Datum → Answer
+good d = answer.Good d
+
+-- one fault alone
 abbrev pub one_fault : Endpoint → FaultCode → Answer
 one_fault e c = answer.Bad (record { at = e; code = c } ∷ [])
 
@@ -70,22 +75,21 @@ arg_value t k value (arg_rule.Own e) = arg_val.One (value e)
 arg_value t k value (arg_rule.Input i ss) = input_value (t.role k i) (t.substitute k i) (map value ss)
 arg_value t k value (arg_rule.Open ps) = arg_val.Open ps
 
-abbrev pub faults_of_all : List Answer → List Fault
-faults_of_all [] = []
-faults_of_all (a ∷ as_) = faults_of a ++ faults_of_all as_
-
 abbrev pub faults_of_arg : ArgVal → List Fault
 faults_of_arg (arg_val.One a) = faults_of a
-faults_of_arg (arg_val.Many as_) = faults_of_all as_
+faults_of_arg (arg_val.Many as_) = flat_map faults_of as_
 faults_of_arg _ = []
 
 abbrev pub faults_of_args : List ArgVal → List Fault
-faults_of_args [] = []
-faults_of_args (a ∷ as_) = faults_of_arg a ++ faults_of_args as_
+faults_of_args args = flat_map faults_of_arg args
+
+-- a good value as the outcome of a production
+abbrev pub made_good : Datum → Made
+made_good d = made.Good d
 
 -- what a production gives, as an answer
 abbrev pub answer_of : Endpoint → Made → Answer
-answer_of e (made.Good d) = cond (nat_le (weight d) max_weight) (answer.Good d) (one_fault e code.TooLong)
+answer_of e (made.Good d) = cond (nat_le (weight d) max_weight) (good d) (one_fault e code.TooLong)
 answer_of e (made.Fault c) = one_fault e c
 
 -- the faults of the arguments come first
@@ -96,16 +100,33 @@ faulted_or (f ∷ fs) other = answer.Bad (take max_faults (distinct_faults (f �
 abbrev pub produced : Tables → Endpoint → Kind → Label → List ArgVal → Answer
 produced t e k l args = faulted_or (faults_of_args args) (answer_of e (t.produce k l args))
 
--- a rule's answer, where `value` gives the answers of other endpoints
+-- a call's answer, where `value` gives the answers of other endpoints
+abbrev pub called_by : Tables → Endpoint → Kind → Label → (Endpoint → Answer) → List ArgRule → Answer
+called_by t e k l value args =
+    cond (list_any is_cycle (map value (named_by_args args))) answer.Cycle (produced t e k l (map (arg_value t k value) args))
+
+-- a rule's answer likewise
 abbrev pub answer_by : Tables → Endpoint → (Endpoint → Answer) → Rule → Answer
 answer_by t e value rule.Absent = one_fault e code.NoEndpoint
 answer_by t e value rule.Defective = one_fault e code.Defective
-answer_by t e value (rule.Own d) = answer.Good d
+answer_by t e value (rule.Own d) = good d
 answer_by t e value (rule.From o) = value o
-answer_by t e value (rule.Default d) = answer.Good d
-answer_by t e value (rule.Call k l args) =
-    cond (list_any is_cycle (map value (named_by_args args))) answer.Cycle
-    (produced t e k l (map (arg_value t k value) args))
+answer_by t e value (rule.Default d) = good d
+answer_by t e value (rule.Call k l args) = called_by t e k l value args
+
+-- how many productions an answer takes: one for a call, where no dependency is a cycle and no argument
+-- stays bad
+abbrev pub one_without : List Fault → ℕ
+one_without [] = 1
+one_without (f ∷ fs) = 0
+
+abbrev pub productions_of_call : Tables → Kind → (Endpoint → Answer) → List ArgRule → ℕ
+productions_of_call t k value args =
+    cond (list_any is_cycle (map value (named_by_args args))) 0 (one_without (faults_of_args (map (arg_value t k value) args)))
+
+abbrev pub productions_by : Tables → (Endpoint → Answer) → Rule → ℕ
+productions_by t value (rule.Call k l args) = productions_of_call t k value args
+productions_by t value _ = 0
 
 abbrev pub value_within : ℕ → Tables → Graph → Endpoint → Answer
 value_within zero t g e = answer.Cycle

@@ -1,10 +1,10 @@
--- A depth-first walk: a node is listed when it is first met, then the nodes that follow it are taken
--- in order, each node once.
-use Rattle.std.specs.Prelude.{ℕ, zero, suc, List, [], ◌∷◌, ◌++◌, cond, fold}
-use Rattle.dg_base.specs.declared.ids.NodeId.{NodeId}
-use Rattle.dg_base.specs.Order.{is_node_among}
+-- A depth-first walk: what follows is taken in order, and each is listed when it is first met, once.
+use Rattle.std.specs.Prelude.{ℕ, zero, suc, List, [], ◌∷◌, ◌++◌, Bool, cond, fold}
+use Rattle.std.specs.List.{list_any}
 
--- the nodes met so far, and then those that are first met from a node on; at most so many levels deep
-abbrev pub walk_within : ℕ → (NodeId → List NodeId) → List NodeId → NodeId → List NodeId
-walk_within zero follow met n = met
-walk_within (suc k) follow met n = cond (is_node_among met n) met (fold (walk_within k follow) (met ++ n ∷ []) (follow n))
+-- those met so far, and then those that are first met from one on; at most so many levels deep. `same`
+-- tells which are the same
+abbrev pub walk_within : {X : Type 0} → (X → X → Bool) → ℕ → (X → List X) → List X → X → List X
+walk_within same zero follow met x = met
+walk_within same (suc k) follow met x =
+    cond (list_any (same x) met) met (fold (walk_within same k follow) (met ++ x ∷ []) (follow x))

@@ -1,24 +1,31 @@
 -- Small graphs of which the checker computes what the definitions say.
-use Rattle.std.specs.Prelude.{ℕ, zero, suc, ◌*◌, List, [], ◌∷◌, ◌++◌, true, false, pos, map, length}
+use Rattle.std.specs.Prelude.{ℕ, zero, suc, ◌*◌, List, [], ◌∷◌, ◌++◌, true, false, cond, ◌==◌, pos, map, length}
 use Rattle.dg_base.specs.declared.ids.NodeId.{NodeId}
 use Rattle.dg_base.specs.declared.ids.Label.{Label}
 use Rattle.dg_base.specs.declared.ids.Endpoint.{Endpoint}
 use Rattle.dg_base.specs.declared.ids.ArcRec.{ArcRec}
 use Rattle.dg_base.specs.declared.datum.Datum.{Datum}
 use Rattle.dg_base.specs.declared.datum.Datum.TheVariants as datum
+use Rattle.dg_base.specs.declared.datum.PType.TheVariants as ptype
+use Rattle.dg_base.specs.declared.schema.Ty.TheVariants as ty
+use Rattle.dg_base.specs.declared.schema.Role.TheVariants as role
+use Rattle.dg_base.specs.declared.schema.ArgSpec.TheVariants as arg
 use Rattle.dg_base.specs.declared.answer.Answer.TheVariants as answer
 use Rattle.dg_base.specs.declared.answer.Fault.{Fault}
 use Rattle.dg_base.specs.declared.answer.FaultCode.TheVariants as code
 use Rattle.dg_base.specs.declared.graph.Node.{Node}
 use Rattle.dg_base.specs.declared.graph.Origin.TheVariants as origin
+use Rattle.dg_base.specs.Tables.{Tables}
 use Rattle.dg_base.specs.Graph.{Graph}
 use Rattle.dg_base.specs.declared.step.NodeRef.{Id}
 use Rattle.dg_base.specs.declared.step.Step.{Step}
 use Rattle.dg_base.specs.declared.step.Step.TheVariants as step
-use Rattle.dg_base.specs.Apply.{Progress}
-use Rattle.dg_base.specs.Touched.{Applied}
-use Rattle.dg_base.specs.Value.{faulted_or, faults_of}
-use Rattle.dg_base.specs.First.{num, sum_, value, terms, extra, total}
+use Rattle.dg_base.specs.Changes.{over_node}
+use Rattle.dg_base.specs.Progress.{Progress}
+use Rattle.dg_base.specs.Transact.{Applied}
+use Rattle.dg_base.specs.Rule.{rule_of}
+use Rattle.dg_base.specs.Value.{faulted_or, faults_of, made_good, value_at, productions_by}
+use Rattle.dg_base.specs.First.{num, sum_, value, terms, extra, total, first_tables}
 
 abbrev pub node_id : ℕ → NodeId
 node_id n = record { 0 = n }
@@ -48,9 +55,8 @@ marked_sum n = record { id = node_id n; origin = origin.Plain sum_; defective = 
 abbrev pub marked_num : ℕ → ℕ → Node
 marked_num n v = record { id = node_id n; origin = origin.Plain num; defective = true; own = record { label = value; value = whole v } ∷ [] }
 
-abbrev pub over_node : ℕ → ℕ → ℕ → Node
-over_node n root original =
-    record { id = node_id n; origin = origin.Over (node_id root) (node_id original); defective = false; own = [] }
+abbrev pub over : ℕ → ℕ → ℕ → Node
+over n root original = over_node n (node_id root) (node_id original)
 
 abbrev pub over_set : ℕ → ℕ → ℕ → ℕ → Node
 over_set n root original v =
@@ -90,20 +96,20 @@ marked_property = record { nodes = marked_num 1 5 ∷ []; arcs = [] }
 
 -- an override of a number, without and with an own value
 abbrev pub inheriting : Graph
-inheriting = record { nodes = num_set 1 5 ∷ over_node 2 2 1 ∷ over_set 3 3 1 6 ∷ []; arcs = [] }
+inheriting = record { nodes = num_set 1 5 ∷ over 2 2 1 ∷ over_set 3 3 1 6 ∷ []; arcs = [] }
 
 -- a sum of one number, and an override of both, in which the number is 6: the override node of the
 -- sum inherits the source, which is replaced by the number's override node
 abbrev pub replaced_source : Graph
 replaced_source = record {
-  nodes = num_set 1 5 ∷ sum_node 2 ∷ over_node 3 3 2 ∷ over_set 4 3 1 6 ∷ [];
+  nodes = num_set 1 5 ∷ sum_node 2 ∷ over 3 3 2 ∷ over_set 4 3 1 6 ∷ [];
   arcs = arc_from 1 value 2 terms ∷ [];
 }
 
 -- the same, but a source of its own replaces all that the sum's override node inherits
 abbrev pub explicit_source : Graph
 explicit_source = record {
-  nodes = num_set 1 5 ∷ sum_node 2 ∷ over_node 3 3 2 ∷ over_set 4 3 1 6 ∷ num_set 5 8 ∷ [];
+  nodes = num_set 1 5 ∷ sum_node 2 ∷ over 3 3 2 ∷ over_set 4 3 1 6 ∷ num_set 5 8 ∷ [];
   arcs = arc_from 1 value 2 terms ∷ arc_from 5 value 3 terms ∷ [];
 }
 
@@ -147,7 +153,7 @@ owning = record {
 -- a sum of one number, and an override of both
 abbrev pub overridden : Graph
 overridden = record {
-  nodes = num_node 1 ∷ sum_node 2 ∷ over_node 3 3 2 ∷ over_node 4 3 1 ∷ [];
+  nodes = num_node 1 ∷ sum_node 2 ∷ over 3 3 2 ∷ over 4 3 1 ∷ [];
   arcs = arc_from 1 value 2 terms ∷ [];
 }
 
@@ -161,13 +167,13 @@ apart = record { nodes = num_node 1 ∷ sum_node 2 ∷ []; arcs = [] }
 
 -- a sum, an override of it, an override of that, and a number
 abbrev pub twice_overridden : Graph
-twice_overridden = record { nodes = sum_node 1 ∷ over_node 2 2 1 ∷ over_node 3 3 2 ∷ num_node 4 ∷ []; arcs = [] }
+twice_overridden = record { nodes = sum_node 1 ∷ over 2 2 1 ∷ over 3 3 2 ∷ num_node 4 ∷ []; arcs = [] }
 
 -- the number connected to the sum: it has got an override node in the first override, and that one
 -- has got an override node in the second
 abbrev pub twice_populated : Graph
 twice_populated = record {
-  nodes = sum_node 1 ∷ over_node 2 2 1 ∷ over_node 3 3 2 ∷ num_node 4 ∷ over_node 5 2 4 ∷ over_node 6 3 5 ∷ [];
+  nodes = sum_node 1 ∷ over 2 2 1 ∷ over 3 3 2 ∷ num_node 4 ∷ over 5 2 4 ∷ over 6 3 5 ∷ [];
   arcs = arc_from 4 value 1 terms ∷ [];
 }
 
@@ -187,3 +193,44 @@ connects n l m i = step.Connect (Id (node_id n)) l (Id (node_id m)) i ∷ []
 
 abbrev pub disconnects : ℕ → Label → ℕ → Label → List Step
 disconnects n l m i = step.Disconnect (Id (node_id n)) l (Id (node_id m)) i ∷ []
+
+-- a sum of a number, a sum of that, and a sum of that one
+abbrev pub three_sums : Graph
+three_sums = record {
+  nodes = num_node 1 ∷ sum_node 2 ∷ sum_node 3 ∷ sum_node 4 ∷ num_node 5 ∷ [];
+  arcs = arc_from 1 value 2 terms ∷ arc_from 2 total 3 terms ∷ arc_from 3 total 4 terms ∷ arc_from 5 value 4 terms ∷ [];
+}
+
+-- a schema with one kind, which is open: its output reads the open values, and says nothing of them
+abbrev pub shown : Label
+shown = record { 0 = 1 }
+
+abbrev pub open_tables : Tables
+open_tables = record {
+  labels = λ k. shown ∷ [];
+  role = λ k l. cond (l.0 == 1) (role.Output ty.Number true) role.Nothing;
+  is_open = λ k. true;
+  args = λ k l. arg.Open ∷ [];
+  preset = λ k l. datum.Nil;
+  substitute = λ k l. datum.Nil;
+  produce = λ k l args. made_good datum.Nil;
+}
+
+-- a name that was interned first, and a node with a value there that an override node inherits
+abbrev pub speed : Label
+speed = record { 0 = 1024 }
+
+abbrev pub speed_set : Node
+speed_set = record {
+  id = node_id 1;
+  origin = origin.Plain num;
+  defective = false;
+  own = record { label = speed; value = datum.Prop (record { name = speed; ptype = ptype.Number; text = [] }) } ∷ [];
+}
+
+abbrev pub open_inherited : Graph
+open_inherited = record { nodes = speed_set ∷ over 2 2 1 ∷ []; arcs = [] }
+
+-- how many productions the value of an endpoint takes, beside those of its dependencies
+abbrev pub productions_of : Graph → Endpoint → ℕ
+productions_of g e = productions_by first_tables (value_at first_tables g) (rule_of first_tables g e)

@@ -1,4 +1,6 @@
+//! Answers: what an endpoint has, or why it has nothing.
 ghost use Rattle.std.specs.Prelude.{◌≡◌, List, IfOk};
+ghost use Rattle.dg_base.specs.Value.{good};
 
 use crate::{Datum, Endpoint};
 use std::alloc::{AllocError, Global};
@@ -60,6 +62,15 @@ pub enum Answer {
     Good(Datum),
     Bad(Faults),
     Cycle,
+}
+
+impl Answer {
+    /// A good answer.
+    pub fn good(value: Datum) -> Answer
+        ensures { result ≡ good value }
+    {
+        Answer::Good(value)
+    }
 }
 
 /// An answer that several owners share. Contracts see the answer.

@@ -1,4 +1,6 @@
+//! Values.
 ghost use Rattle.std.specs.Prelude.{◌≡◌, ◌^◌, ◌-◌, min, IfOk};
+ghost use Rattle.dg_base.specs.Role.{is_prop_named};
 ghost use Rattle.dg_base.specs.Weight.{weight, weights_of, field_weights_of};
 
 use crate::{Label, Str};
@@ -84,6 +86,16 @@ impl PropVal {
 }
 
 impl Datum {
+    /// Whether this is an open property of the name.
+    pub fn is_prop_named(&self, name: Label) -> bool
+        ensures { result ≡ is_prop_named name self.now }
+    {
+        match self {
+            Datum::Prop(prop) => prop.name.0 == name.0,
+            _ => false,
+        }
+    }
+
     /// An equal value of its own, in time linear in its weight.
     #[cycle(datum_copy)]
     pub fn copy(&self, alloc: Global) -> Result<Datum, AllocError>

@@ -1,3 +1,4 @@
+//! Nodes.
 use crate::{Fields, Kind, NodeId};
 
 /// Where a node comes from: it has a kind of its own, or it is an override node, which inherits

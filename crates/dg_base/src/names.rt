@@ -3,12 +3,10 @@ ghost use Rattle.std.specs.Prelude.{◌≡◌, ◌≢◌, ◌≤◌, ◌<◌, Li
 ghost use Rattle.std.specs.Option.{option_map};
 ghost use Rattle.dg_base.specs.Names.{label_of, label_at, text_at, interned};
 
-use crate::Label;
+use crate::{FIRST_OPEN, Label};
 use indexmap::IndexSet;
 use std::alloc::{AllocError, Global};
 use std::marker::Model;
-
-const FIRST: u64 = 1024;
 
 /// Texts that have labels, from 1,024 upward in the order in which they came. Contracts see the
 /// texts in order.
@@ -64,17 +62,17 @@ impl Names {
     {
         let count = self.texts.len();
         prove!(place < count);
-        Label(FIRST + place as u64)
+        Label(FIRST_OPEN + place as u64)
     }
 
     /// The text of the label, where one is interned with it.
     pub fn text(&self, label: Label) -> Option<&str>
         ensures { option_map (λ t. t.now) result ≡ text_at self.now label }
     {
-        if label.0 < FIRST {
+        if label.0 < FIRST_OPEN {
             return None;
         }
-        match self.texts.get_index((label.0 - FIRST) as usize) {
+        match self.texts.get_index((label.0 - FIRST_OPEN) as usize) {
             Some(text) => Some(text.as_str()),
             None => None,
         }

@@ -1,3 +1,4 @@
+//! Rules: how the value of an endpoint is found.
 ghost use Rattle.std.specs.Prelude.{◌≡◌, List};
 
 use crate::{Datum, Endpoint, Kind, Label, NodeId, PropVal};

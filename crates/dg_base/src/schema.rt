@@ -1,4 +1,7 @@
+//! Schemas: the kinds of nodes, what their labels are, and what their outputs give.
 ghost use Rattle.std.specs.Prelude.{◌≡◌, ◌+◌, IfOk};
+ghost use Rattle.dg_base.specs.Role.{is_given, is_output, is_cached, is_array, cascades, given, taken, has_type};
+ghost use Rattle.dg_base.specs.Value.{made_good};
 
 use crate::{Datum, Held, Kind, Label, Props, Steps};
 use std::alloc::{AllocError, Global};
@@ -40,6 +43,88 @@ pub enum Role {
     },
 }
 
+impl Ty {
+    /// Whether a value is of this type. The types from `Resource` on have no values that could be set.
+    pub fn has(self, value: &Datum) -> bool
+        ensures { result ≡ has_type self value.now }
+    {
+        match self {
+            Ty::Number => matches!(value, Datum::Dec(_)),
+            Ty::Text => matches!(value, Datum::Text(_)),
+            Ty::Flag => matches!(value, Datum::Flag(_)),
+            Ty::Vec3 => matches!(value, Datum::Vec3(_)),
+            Ty::Quat => matches!(value, Datum::Quat(_)),
+            _ => false,
+        }
+    }
+}
+
+impl Role {
+    /// Whether this is a property or an output, which can be asked for.
+    pub fn is_given(self) -> bool
+        ensures { result ≡ is_given self }
+    {
+        matches!(self, Role::Property(_) | Role::Output { .. })
+    }
+
+    pub fn is_output(self) -> bool
+        ensures { result ≡ is_output self }
+    {
+        matches!(self, Role::Output { .. })
+    }
+
+    /// Whether this is an output that is kept in the shared cache.
+    pub fn is_cached(self) -> bool
+        ensures { result ≡ is_cached self }
+    {
+        match self {
+            Role::Output { cached, .. } => cached,
+            _ => false,
+        }
+    }
+
+    /// The type that a property or output gives.
+    pub fn given(self) -> Option<Ty>
+        ensures { result ≡ given self }
+    {
+        match self {
+            Role::Property(ty) => Some(ty),
+            Role::Output { ty, .. } => Some(ty),
+            _ => None,
+        }
+    }
+
+    /// The type that an input takes.
+    pub fn taken(self) -> Option<Ty>
+        ensures { result ≡ taken self }
+    {
+        match self {
+            Role::Input { ty, .. } => Some(ty),
+            _ => None,
+        }
+    }
+
+    /// Whether this is an input that takes several sources.
+    pub fn is_array(self) -> bool
+        ensures { result ≡ is_array self }
+    {
+        match self {
+            Role::Input { array, .. } => array,
+            _ => false,
+        }
+    }
+
+    /// Whether this is an input that owns the nodes of its sources.
+    pub fn cascades(self) -> bool
+        ensures { result ≡ cascades self }
+    {
+        match self {
+            Role::Input { cascade, .. } => cascade,
+            _ => false,
+        }
+    }
+}
+
 /// Where an output's argument comes from: a property or output of its own node, an input, or all
 /// open values.
 #[derive(Clone, Copy, PartialEq, Eq, Debug)]
@@ -68,6 +153,15 @@ pub enum ArgVal {
 pub enum Made {
     Good(Datum),
     Fault(crate::FaultCode),
+}
+
+impl Made {
+    /// A good value.
+    pub fn good(value: Datum) -> Made
+        ensures { result ≡ made_good value }
+    {
+        Made::Good(value)
+    }
 }
 
 /// The kinds of nodes that a project has. The engine is generic over it.

@@ -1,3 +1,4 @@
+//! Steps of a transaction.
 use crate::{Datum, Kind, Label, NodeId};
 use sqlite_items::Boxed;
 
@@ -64,4 +65,11 @@ pub enum TxCode {
     NotInput,
     ArcType,
     NoArc,
+}
+
+/// The first step of a transaction that can't be done, counted from 1, and why.
+#[derive(Clone, Copy, PartialEq, Eq, Debug)]
+pub struct RefusedStep {
+    pub step: u32,
+    pub code: TxCode,
 }

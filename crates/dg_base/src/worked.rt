@@ -6,21 +6,25 @@ ghost use Rattle.dg_base.specs.declared.answer.FaultCode.TheVariants as code;
 ghost use Rattle.dg_base.specs.declared.datum.Datum.TheVariants as datum;
 ghost use Rattle.dg_base.specs.declared.rule.Rule.TheVariants as rule;
 ghost use Rattle.dg_base.specs.declared.step.TxCode.TheVariants as tx;
-ghost use Rattle.dg_base.specs.Apply.{make_step, set_step, connect_step, changed_to, with_value};
 ghost use Rattle.dg_base.specs.Chain.{heirs};
+ghost use Rattle.dg_base.specs.Changes.{with_value};
 ghost use Rattle.dg_base.specs.Dirty.{dirty};
+ghost use Rattle.dg_base.specs.Graph.{empty};
+ghost use Rattle.dg_base.specs.Evaluation.{evaluated, nothing_evaluated, productions, cached_outputs};
 ghost use Rattle.dg_base.specs.First.{num, value, terms, extra, total, first_tables, owning_tables};
 ghost use Rattle.dg_base.specs.Owned.{cascade_tree, doomed};
 ghost use Rattle.dg_base.specs.Rule.{rule_of, dependencies};
 ghost use Rattle.dg_base.specs.Sound.{IsSound, arc_fits};
 ghost use Rattle.dg_base.specs.Sources.{sources};
-ghost use Rattle.dg_base.specs.Touched.{applied};
-ghost use Rattle.dg_base.specs.Value.{value_at, one_fault};
-ghost use Rattle.dg_base.specs.Worked.{at, arc_from, node_id, whole, three_and_four, ten_large, own_term, marked_source, marked_property, inheriting, replaced_source, explicit_source, kept_of, two_extras, one_extra, other_extra, begun, third_refused, owning, overridden, not_overridden, apart, twice_overridden, twice_populated, done, deletes, sets, connects, disconnects};
+ghost use Rattle.dg_base.specs.Steps.{make_step, set_step, connect_step};
+ghost use Rattle.dg_base.specs.Touched.{touched_values};
+ghost use Rattle.dg_base.specs.Transact.{applied};
+ghost use Rattle.dg_base.specs.Value.{value_at, good, one_fault};
+ghost use Rattle.dg_base.specs.Worked.{at, arc_from, node_id, whole, three_and_four, ten_large, own_term, marked_source, marked_property, inheriting, replaced_source, explicit_source, kept_of, two_extras, one_extra, other_extra, begun, third_refused, owning, overridden, not_overridden, apart, twice_overridden, twice_populated, done, deletes, sets, connects, disconnects, three_sums, shown, open_tables, speed, open_inherited, productions_of};
 
 /// Two numbers and their sum.
 pub fn adds()
-    ensures value { value_at first_tables three_and_four (at 3 total) ≡ answer.Good (whole 7) }
+    ensures value { value_at first_tables three_and_four (at 3 total) ≡ good (whole 7) }
     ensures reads { dependencies first_tables three_and_four (at 3 total) ≡ at 1 value ∷ at 2 value ∷ [] }
 {}
 
@@ -40,9 +44,9 @@ pub fn cycles()
 /// readable.
 pub fn marks()
     ensures marked { value_at first_tables marked_source (at 1 total) ≡ one_fault (at 1 total) code.Defective }
-    ensures replaced { value_at first_tables marked_source (at 2 total) ≡ answer.Good (whole 0) }
+    ensures replaced { value_at first_tables marked_source (at 2 total) ≡ good (whole 0) }
     ensures handed_on { value_at first_tables marked_source (at 3 total) ≡ one_fault (at 1 total) code.Defective }
-    ensures readable { value_at first_tables marked_property (at 1 value) ≡ answer.Good (whole 5) }
+    ensures readable { value_at first_tables marked_property (at 1 value) ≡ good (whole 5) }
 {}
 
 /// What isn't there has no rule.
@@ -54,8 +58,8 @@ pub fn absent()
 /// An override node reads its original's value until it has its own.
 pub fn inherits()
     ensures from { rule_of first_tables inheriting (at 2 value) ≡ rule.From (at 1 value) }
-    ensures inherited { value_at first_tables inheriting (at 2 value) ≡ answer.Good (whole 5) }
-    ensures own { value_at first_tables inheriting (at 3 value) ≡ answer.Good (whole 6) }
+    ensures inherited { value_at first_tables inheriting (at 2 value) ≡ good (whole 5) }
+    ensures own { value_at first_tables inheriting (at 3 value) ≡ good (whole 6) }
     ensures heirs { heirs inheriting (node_id 1) ≡ node_id 1 ∷ node_id 2 ∷ node_id 3 ∷ [] }
 {}
 
@@ -64,9 +68,9 @@ pub fn inherits()
 pub fn replaces()
     ensures original { sources replaced_source (node_id 2) terms ≡ at 1 value ∷ [] }
     ensures replaced { sources replaced_source (node_id 3) terms ≡ at 4 value ∷ [] }
-    ensures value { value_at first_tables replaced_source (at 3 total) ≡ answer.Good (whole 6) }
-    ensures explicit { value_at first_tables explicit_source (at 3 total) ≡ answer.Good (whole 8) }
-    ensures untouched { value_at first_tables explicit_source (at 2 total) ≡ answer.Good (whole 5) }
+    ensures value { value_at first_tables replaced_source (at 3 total) ≡ good (whole 6) }
+    ensures explicit { value_at first_tables explicit_source (at 3 total) ≡ good (whole 8) }
+    ensures untouched { value_at first_tables explicit_source (at 2 total) ≡ good (whole 5) }
 {}
 
 /// Of 65 different faults the first 64 are kept.
@@ -127,9 +131,55 @@ pub fn keeps_what_is_disconnected()
     ensures { applied owning_tables not_overridden 3 (disconnects 1 value 2 terms) ≡ Ok (done apart 3 (at 2 total ∷ [])) }
 {}
 
-/// A value that is set touches the property at each heir, and makes dirty what reads it.
+/// A value that is set touches the property at each heir.
 pub fn touches_heirs()
-    ensures touched { applied first_tables inheriting 4 (sets 1 7)
+    ensures { applied first_tables inheriting 4 (sets 1 7)
         ≡ Ok (done (with_value inheriting (node_id 1) value (whole 7)) 4 (at 1 value ∷ at 2 value ∷ at 3 value ∷ [])) }
-    ensures dirty { dirty first_tables three_and_four (at 1 value ∷ []) ≡ at 1 value ∷ at 3 total ∷ [] }
+{}
+
+/// Dirty is all that depends on what was touched: over three steps, but not what depends on other
+/// endpoints alone. What was touched is dirty also where it isn't in the graph.
+pub fn spreads()
+    ensures three_steps { dirty first_tables three_sums (at 1 value ∷ []) ≡ at 1 value ∷ at 2 total ∷ at 3 total ∷ at 4 total ∷ [] }
+    ensures one_step { dirty first_tables three_sums (at 5 value ∷ []) ≡ at 4 total ∷ at 5 value ∷ [] }
+    ensures absent { dirty first_tables three_sums (at 9 value ∷ []) ≡ at 9 value ∷ [] }
+{}
+
+/// An open value is inherited as a property is, and so made dirty. The output that reads open values has
+/// no dependency on it: a step that sets the value touches that output itself.
+pub fn spreads_to_heirs()
+    ensures inherited { dirty open_tables open_inherited (at 1 speed ∷ []) ≡ at 1 speed ∷ at 2 speed ∷ [] }
+    ensures no_dependency { dependencies open_tables open_inherited (at 1 shown) ≡ [] }
+    ensures touched { touched_values open_tables open_inherited (Some (node_id 1)) speed ≡ at 1 speed ∷ at 1 shown ∷ at 2 speed ∷ at 2 shown ∷ [] }
+{}
+
+/// A production counts where its rule is a call, no dependency is a cycle and no argument stays bad.
+pub fn counts_productions()
+    ensures call { productions_of three_and_four (at 3 total) ≡ 1 }
+    ensures property { productions_of three_and_four (at 1 value) ≡ 0 }
+    ensures cycle { productions_of own_term (at 2 total) ≡ 0 }
+    ensures substitute { productions_of marked_source (at 2 total) ≡ 1 }
+    ensures bad { productions_of marked_source (at 3 total) ≡ 0 }
+{}
+
+/// A walk lists the node that it begins at, also where that isn't there.
+pub fn walks_from_anywhere()
+    ensures tree { cascade_tree owning_tables empty (node_id 7) ≡ node_id 7 ∷ [] }
+    ensures doomed { doomed owning_tables owning (node_id 7) ≡ node_id 7 ∷ [] }
+{}
+
+/// An evaluation lists what an endpoint depends on before the endpoint, each once; a cycle ends it; a
+/// known endpoint isn't entered and is a hit. An override node's property leads to its original's.
+pub fn evaluates()
+    ensures all { evaluated first_tables three_and_four [] nothing_evaluated (at 3 total)
+        ≡ record { listed = at 1 value ∷ at 2 value ∷ at 3 total ∷ []; hits = [] } }
+    ensures known { evaluated first_tables three_and_four (at 2 value ∷ []) nothing_evaluated (at 3 total)
+        ≡ record { listed = at 1 value ∷ at 3 total ∷ []; hits = at 2 value ∷ [] } }
+    ensures cycle { evaluated first_tables own_term [] nothing_evaluated (at 2 total)
+        ≡ record { listed = at 1 total ∷ at 2 total ∷ []; hits = [] } }
+    ensures original { evaluated first_tables inheriting [] nothing_evaluated (at 2 value)
+        ≡ record { listed = at 1 value ∷ at 2 value ∷ []; hits = [] } }
+    ensures productions { productions first_tables three_and_four (at 1 value ∷ at 2 value ∷ at 3 total ∷ []) ≡ 1 }
+    ensures faulted { productions first_tables marked_source (at 1 total ∷ at 3 total ∷ []) ≡ 0 }
+    ensures entries { cached_outputs first_tables three_and_four (at 1 value ∷ at 2 value ∷ at 3 total ∷ []) ≡ at 3 total ∷ [] }
 {}

@@ -1,5 +1,0 @@
-use Rattle.dg_base.proofs.LabelTable.{name_of_named}
-use Rattle.dg_base.proofs.labels.labels_agree.Goals as goal
-
-pub returns-clause-name : goal.returns-clause-name
-returns-clause-name c = name_of_named

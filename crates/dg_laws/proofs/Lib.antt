@@ -1,0 +1,27 @@
+-- In reading order: each module uses only the ones before it.
+pub mod Members
+pub mod Filters
+pub mod Among
+pub mod Orders
+pub mod Rising
+pub mod Ids
+pub mod Ends
+pub mod Walks
+pub mod Nodes
+pub mod Chains
+pub mod Sources
+pub mod Heirs
+pub mod GraphWalks
+pub mod Endpoints
+pub mod Fuel
+pub mod Endless
+pub mod Dirties
+pub mod SoundParts
+pub mod SoundNodes
+pub mod SoundValues
+pub mod SoundArcs
+pub mod SoundDeletes
+pub mod SoundKept
+pub mod SoundSteps
+pub mod SoundOverrides
+pub mod SoundApplied
