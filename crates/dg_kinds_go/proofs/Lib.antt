@@ -1,2 +1,2 @@
-pub mod Equals
+pub mod EqualTexts
 pub mod Replacing

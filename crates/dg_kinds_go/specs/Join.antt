@@ -3,7 +3,7 @@ use Rattle.std.specs.Prelude.{ℕ, List, [], ◌∷◌, ◌++◌, map}
 use Rattle.dg_base.specs.declared.datum.Datum.TheVariants as datum
 use Rattle.dg_base.specs.declared.schema.ArgVal.{ArgVal}
 use Rattle.dg_base.specs.declared.schema.Made.{Made}
-use Rattle.dg_base.specs.declared.schema.Made.TheVariants as made
+use Rattle.dg_base.specs.Value.{made_good}
 use Rattle.dg_kinds_go.specs.Values.{value_at, values_at, text_in}
 
 abbrev pub each_after : List ℕ → List (List ℕ) → List ℕ
@@ -16,4 +16,4 @@ glued glue (part ∷ parts) = part ++ each_after glue parts
 
 -- the arguments are the parts and the glue
 abbrev pub join_joined : List ArgVal → Made
-join_joined args = made.Good (datum.Text (glued (text_in (value_at args 1)) (map text_in (values_at args 0))))
+join_joined args = made_good (datum.Text (glued (text_in (value_at args 1)) (map text_in (values_at args 0))))

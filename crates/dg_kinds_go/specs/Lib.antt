@@ -1,8 +1,6 @@
 -- In reading order: each module uses only the ones before it.
-pub mod Labels
 pub mod Kinds
 pub mod Values
-pub mod Words
 pub mod Sum
 pub mod Join
 pub mod Files

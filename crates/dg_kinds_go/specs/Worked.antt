@@ -3,12 +3,12 @@ use Rattle.std.specs.Prelude.{ℕ, codes}
 use Rattle.dg_base.specs.declared.datum.Datum.{Datum}
 use Rattle.dg_base.specs.declared.datum.PropVal.{PropVal}
 use Rattle.dg_base.specs.declared.datum.PType.TheVariants as ptype
-use Rattle.dg_base.specs.declared.answer.Answer.TheVariants as answer
 use Rattle.dg_base.specs.declared.schema.ArgVal.{ArgVal}
 use Rattle.dg_base.specs.declared.schema.ArgVal.TheVariants as arg_val
+use Rattle.dg_base.specs.Value.{good}
 
 abbrev pub one : Datum → ArgVal
-one d = arg_val.One (answer.Good d)
+one d = arg_val.One (good d)
 
 -- an open value of this name, a number or a hash
 abbrev pub number : ℕ → PropVal

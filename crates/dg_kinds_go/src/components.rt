@@ -3,14 +3,13 @@ ghost use Rattle.std.specs.Prelude.{◌≡◌, map, filter_map, IfOk, cond};
 ghost use Rattle.std.specs.Option.{option_copied, option_map};
 ghost use Rattle.dg_base.specs.declared.datum.Datum.TheVariants as datum;
 ghost use Rattle.dg_base.specs.Rule.{prop_of};
-ghost use Rattle.dg_kinds_go.specs.Components.{number_of_ptype, same_ptype, own_named, placed, replaced, declared_in, ref_record, ref_with, ref_component, embedded_value, embedded_component};
+ghost use Rattle.dg_kinds_go.specs.Components.{number_of_ptype, same_ptype, own_named, placed, replaced, declared_in, ref_record, ref_with, ref_component, is_type_byte, is_type_name, embedded_value, embedded_component};
 
-use crate::labels::{DATA, ID, PATH, POSITION, PROPS, ROTATION, TYPE};
 use crate::values::{
     copied, field_in, items_in, props_at, push_field, push_item, text_in, value_at,
 };
-use crate::words::is_type_name;
 use dg_base::{ArgVal, Datum, FaultCode, Fields, Items, Made, PType, PropVal};
+use dg_labels::labels::{DATA, ID, PATH, POSITION, PROPS, ROTATION, TYPE};
 use std::alloc::{AllocError, Global};
 
 /// `ComponentRef.component`: NoResource without a resource, PropType where an own open value has
@@ -32,7 +31,7 @@ fn ref_with(alloc: Global, args: &[ArgVal], resource: &Datum) -> Result<Made, Al
     match replaced(alloc, props_at(args, 4), declared)? {
         Some(props) => {
             let value = ref_record(alloc, args, resource, props)?;
-            Ok(Made::Good(value))
+            Ok(Made::good(value))
         }
         None => Ok(Made::Fault(FaultCode::PropType)),
     }
@@ -125,7 +124,7 @@ pub fn embedded_component(alloc: Global, args: &[ArgVal]) -> Result<Made, AllocE
 {
     if is_type_name(text_in(value_at(args, 1))) {
         let value = embedded_value(alloc, args)?;
-        Ok(Made::Good(value))
+        Ok(Made::good(value))
     } else {
         Ok(Made::Fault(FaultCode::BadName))
     }
@@ -141,4 +140,17 @@ fn embedded_value(alloc: Global, args: &[ArgVal]) -> Result<Datum, AllocError>
     push_field(&mut fields, POSITION, copied(alloc, value_at(args, 3))?)?;
     push_field(&mut fields, ROTATION, copied(alloc, value_at(args, 4))?)?;
     Ok(Datum::Rec(fields))
+}
+
+/// Whether a text has the characters a to z, 0 to 9 and `_` alone.
+pub fn is_type_name(text: &str) -> bool
+    ensures { result ≡ is_type_name text.now }
+{
+    text.as_bytes().iter().all(|b| is_type_byte(*b))
+}
+
+fn is_type_byte(b: u8) -> bool
+    ensures { result ≡ is_type_byte b }
+{
+    (b'a' <= b && b <= b'z') || (b'0' <= b && b <= b'9') || b == b'_'
 }

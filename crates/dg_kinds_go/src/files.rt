@@ -3,9 +3,9 @@ ghost use Rattle.std.specs.Prelude.{◌≡◌, map, IfOk};
 ghost use Rattle.dg_base.specs.declared.datum.Datum.TheVariants as datum;
 ghost use Rattle.dg_kinds_go.specs.Files.{props_value, resource_value, file_resource, script_resource};
 
-use crate::labels::{PATH, PROPS};
 use crate::values::{copied, props_at, push_field, push_item, value_at};
 use dg_base::{ArgVal, Datum, Fields, Items, Made, PropVal};
+use dg_labels::labels::{PATH, PROPS};
 use std::alloc::{AllocError, Global};
 
 /// `ResourceFile.resource`: the path and no properties.
@@ -13,7 +13,7 @@ pub fn file_resource(alloc: Global, args: &[ArgVal]) -> Result<Made, AllocError>
     ensures { IfOk result (λ m. m ≡ file_resource args.now) }
 {
     let path = copied(alloc, value_at(args, 0))?;
-    Ok(Made::Good(resource_value(alloc, path, &[])?))
+    Ok(Made::good(resource_value(alloc, path, &[])?))
 }
 
 /// `ScriptFile.resource`: the path and the open values, in label order.
@@ -21,7 +21,7 @@ pub fn script_resource(alloc: Global, args: &[ArgVal]) -> Result<Made, AllocErro
     ensures { IfOk result (λ m. m ≡ script_resource args.now) }
 {
     let path = copied(alloc, value_at(args, 0))?;
-    Ok(Made::Good(resource_value(alloc, path, props_at(args, 1))?))
+    Ok(Made::good(resource_value(alloc, path, props_at(args, 1))?))
 }
 
 fn resource_value(alloc: Global, path: Datum, props: &[PropVal]) -> Result<Datum, AllocError>

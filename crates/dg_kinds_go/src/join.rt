@@ -13,7 +13,7 @@ pub fn join_joined(alloc: Global, args: &[ArgVal]) -> Result<Made, AllocError>
 {
     let glue = text_in(value_at(args, 1));
     let text = glued(alloc, glue, answers_at(args, 0))?;
-    Ok(Made::Good(Datum::Text(Str::of(text))))
+    Ok(Made::good(Datum::Text(Str::of(text))))
 }
 
 fn glued(alloc: Global, glue: &str, parts: &[Held]) -> Result<String, AllocError>

@@ -1,14 +1,14 @@
 //! Game objects and their builds.
 ghost use Rattle.std.specs.Prelude.{◌≡◌, map, IfOk};
 ghost use Rattle.dg_kinds_go.specs.Values.{good_in, or_nil};
-ghost use Rattle.dg_kinds_go.specs.Objects.{has_equals, id_in, object_value, go_object, go_build};
+ghost use Rattle.dg_kinds_go.specs.Objects.{has_equals, id_in, object_value, go_object, is_go_path, go_build};
 
-use crate::labels::{COMPONENTS, ID, PATH};
 use crate::values::{
     answers_at, copied, field_in, good_in, push_field, push_item, text_in, value_at,
 };
-use crate::words::is_go_path;
 use dg_base::{ArgVal, Datum, FaultCode, Fields, Held, Items, Made};
+use dg_labels::labels::{COMPONENTS, ID, PATH};
+use dg_text::{ends_in, is_project_path};
 use std::alloc::{AllocError, Global};
 use std::collections::BTreeSet;
 
@@ -22,7 +22,7 @@ pub fn go_object(alloc: Global, args: &[ArgVal]) -> Result<Made, AllocError>
         return Ok(Made::Fault(FaultCode::DuplicateId));
     }
     let value = object_value(alloc, args)?;
-    Ok(Made::Good(value))
+    Ok(Made::good(value))
 }
 
 fn object_value(alloc: Global, args: &[ArgVal]) -> Result<Datum, AllocError>
@@ -77,6 +77,14 @@ pub fn has_equals(alloc: Global, texts: &[&str]) -> Result<bool, AllocError>
     Ok(false)
 }
 
+// Whether a path can be that of a game object's file.
+fn is_go_path(alloc: Global, path: &str) -> Result<bool, AllocError>
+    ensures { IfOk result (λ b. b ≡ is_go_path path.now) }
+{
+    let is_path = is_project_path(alloc, path)?;
+    Ok(is_path && ends_in(path, ".go"))
+}
+
 /// `GameObject.build`: the object, or BadName where its path isn't a project path that ends in `.go`.
 pub fn go_build(alloc: Global, args: &[ArgVal]) -> Result<Made, AllocError>
     ensures { IfOk result (λ m. m ≡ go_build args.now) }
@@ -84,7 +92,7 @@ pub fn go_build(alloc: Global, args: &[ArgVal]) -> Result<Made, AllocError>
     let object = value_at(args, 0);
     if is_go_path(alloc, text_in(field_in(object, PATH)))? {
         let value = copied(alloc, object)?;
-        Ok(Made::Good(value))
+        Ok(Made::good(value))
     } else {
         Ok(Made::Fault(FaultCode::BadName))
     }

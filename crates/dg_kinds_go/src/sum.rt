@@ -18,7 +18,7 @@ fn number_made(sum: i128) -> Made
     ensures { result ≡ number_made sum }
 {
     match i64::try_from(sum) {
-        Ok(number) => Made::Good(Datum::Dec(number)),
+        Ok(number) => Made::good(Datum::Dec(number)),
         Err(_) => Made::Fault(FaultCode::Range),
     }
 }

@@ -1,9 +1,11 @@
-use crate::labels::*;
+//! What the outputs give, case by case, and that the schema is its table.
 use crate::{GoKinds, go_made};
 use dg_base::{
     Answer, ArgVal, Datum, FieldOf, Fields, Held, Helds, Items, Kind, Label, Made, PType, PropVal,
     Props, Role, Schema, Str, Ty, V3, V4,
 };
+use dg_labels::kinds;
+use dg_labels::labels::*;
 use std::alloc::{AllocError, Global};
 use std::test::Fail;
 
@@ -26,45 +28,65 @@ enum Arg {
 
 /// Kinds, labels, arguments and what they give.
 static CASES: [Case; 30] = [
-    (2, 4, &[Arg::Decs(&[3, -4]), Arg::Sub(5)], "4"),
-    (2, 4, &[Arg::Decs(&[]), Arg::Nil], "0"),
+    (kinds::SUM, TOTAL, &[Arg::Decs(&[3, -4]), Arg::Sub(5)], "4"),
+    (kinds::SUM, TOTAL, &[Arg::Decs(&[]), Arg::Nil], "0"),
     (
-        2,
-        4,
+        kinds::SUM,
+        TOTAL,
         &[Arg::Decs(&[9_223_372_036_854_775_807, 1, -1]), Arg::Nil],
         "9223372036854775807",
     ),
     (
-        2,
-        4,
+        kinds::SUM,
+        TOTAL,
         &[Arg::Decs(&[9_223_372_036_854_775_807]), Arg::Dec(1)],
         "fault Range",
     ),
     (
-        2,
-        4,
+        kinds::SUM,
+        TOTAL,
         &[Arg::Decs(&[-9_223_372_036_854_775_808]), Arg::Dec(0)],
         "-9223372036854775808",
     ),
     (
-        2,
-        4,
+        kinds::SUM,
+        TOTAL,
         &[Arg::Decs(&[-9_223_372_036_854_775_808, -1]), Arg::Nil],
         "fault Range",
     ),
     (
-        4,
-        8,
+        kinds::JOIN,
+        JOINED,
         &[Arg::Texts(&["a", "b", "c"]), Arg::Text("-")],
         "'a-b-c'",
     ),
-    (4, 8, &[Arg::Texts(&["a"]), Arg::Text("-")], "'a'"),
-    (4, 8, &[Arg::Texts(&[]), Arg::Text("-")], "''"),
-    (4, 8, &[Arg::Texts(&["", ""]), Arg::Text("-")], "'-'"),
-    (5, 10, &[Arg::Text("/a.atlas")], "{9: '/a.atlas', 29: []}"),
     (
-        6,
-        10,
+        kinds::JOIN,
+        JOINED,
+        &[Arg::Texts(&["a"]), Arg::Text("-")],
+        "'a'",
+    ),
+    (
+        kinds::JOIN,
+        JOINED,
+        &[Arg::Texts(&[]), Arg::Text("-")],
+        "''",
+    ),
+    (
+        kinds::JOIN,
+        JOINED,
+        &[Arg::Texts(&["", ""]), Arg::Text("-")],
+        "'-'",
+    ),
+    (
+        kinds::RESOURCE_FILE,
+        RESOURCE,
+        &[Arg::Text("/a.atlas")],
+        "{9: '/a.atlas', 29: []}",
+    ),
+    (
+        kinds::SCRIPT_FILE,
+        RESOURCE,
         &[
             Arg::Text("/a.script"),
             Arg::Open(&[(1024, PType::Number, "1"), (1030, PType::Hash, "h")]),
@@ -72,33 +94,68 @@ static CASES: [Case; 30] = [
         "{9: '/a.script', 29: [1024 Number '1', 1030 Hash 'h']}",
     ),
     (
-        7,
-        18,
+        kinds::GAME_OBJECT,
+        OBJECT,
         &[Arg::Text("/a.go"), Arg::Components(&["x", "y"])],
         "{9: '/a.go', 17: [{11: 'x'}, {11: 'y'}]}",
     ),
     (
-        7,
-        18,
+        kinds::GAME_OBJECT,
+        OBJECT,
         &[Arg::Text("/a.go"), Arg::Components(&["x", "y", "x"])],
         "fault DuplicateId",
     ),
     (
-        7,
-        18,
+        kinds::GAME_OBJECT,
+        OBJECT,
         &[Arg::Text(""), Arg::Components(&[])],
         "{9: '', 17: []}",
     ),
-    (7, 19, &[Arg::Object("/a/b.go")], "{9: '/a/b.go'}"),
-    (7, 19, &[Arg::Object("/.go")], "{9: '/.go'}"),
-    (7, 19, &[Arg::Object("/a.collection")], "fault BadName"),
-    (7, 19, &[Arg::Object("a.go")], "fault BadName"),
-    (7, 19, &[Arg::Object("/a/../b.go")], "fault BadName"),
-    (7, 19, &[Arg::Object("/a//b.go")], "fault BadName"),
-    (7, 19, &[Arg::Object("")], "fault BadName"),
     (
-        8,
-        16,
+        kinds::GAME_OBJECT,
+        BUILD,
+        &[Arg::Object("/a/b.go")],
+        "{9: '/a/b.go'}",
+    ),
+    (
+        kinds::GAME_OBJECT,
+        BUILD,
+        &[Arg::Object("/.go")],
+        "{9: '/.go'}",
+    ),
+    (
+        kinds::GAME_OBJECT,
+        BUILD,
+        &[Arg::Object("/a.collection")],
+        "fault BadName",
+    ),
+    (
+        kinds::GAME_OBJECT,
+        BUILD,
+        &[Arg::Object("a.go")],
+        "fault BadName",
+    ),
+    (
+        kinds::GAME_OBJECT,
+        BUILD,
+        &[Arg::Object("/a/../b.go")],
+        "fault BadName",
+    ),
+    (
+        kinds::GAME_OBJECT,
+        BUILD,
+        &[Arg::Object("/a//b.go")],
+        "fault BadName",
+    ),
+    (
+        kinds::GAME_OBJECT,
+        BUILD,
+        &[Arg::Object("")],
+        "fault BadName",
+    ),
+    (
+        kinds::COMPONENT_REF,
+        COMPONENT,
         &[
             Arg::Text("p"),
             Arg::Vec3,
@@ -109,8 +166,8 @@ static CASES: [Case; 30] = [
         "fault NoResource",
     ),
     (
-        8,
-        16,
+        kinds::COMPONENT_REF,
+        COMPONENT,
         &[
             Arg::Text("p"),
             Arg::Vec3,
@@ -124,8 +181,8 @@ static CASES: [Case; 30] = [
         "{11: 'p', 9: '/p.script', 14: <1 2 3>, 15: <4 5 6 7>, 29: [1030 Number '7', 1024 Hash 'h']}",
     ),
     (
-        8,
-        16,
+        kinds::COMPONENT_REF,
+        COMPONENT,
         &[
             Arg::Text("p"),
             Arg::Vec3,
@@ -136,8 +193,8 @@ static CASES: [Case; 30] = [
         "fault PropType",
     ),
     (
-        9,
-        16,
+        kinds::COMPONENT_EMBEDDED,
+        COMPONENT,
         &[
             Arg::Text("e"),
             Arg::Text("tile_set2"),
@@ -148,8 +205,8 @@ static CASES: [Case; 30] = [
         "{11: 'e', 12: 'tile_set2', 13: 'd', 14: <1 2 3>, 15: <4 5 6 7>}",
     ),
     (
-        9,
-        16,
+        kinds::COMPONENT_EMBEDDED,
+        COMPONENT,
         &[
             Arg::Text("e"),
             Arg::Text("tileSet"),
@@ -160,8 +217,8 @@ static CASES: [Case; 30] = [
         "fault BadName",
     ),
     (
-        9,
-        16,
+        kinds::COMPONENT_EMBEDDED,
+        COMPONENT,
         &[
             Arg::Text("e"),
             Arg::Text(""),
@@ -171,11 +228,11 @@ static CASES: [Case; 30] = [
         ],
         "{11: 'e', 12: '', 13: '', 14: <1 2 3>, 15: <4 5 6 7>}",
     ),
-    (1, 1, &[], "nil"),
-    (10, 23, &[], "nil"),
+    (kinds::NUM, VALUE, &[], "nil"),
+    (kinds::GO_INSTANCE, INSTANCE, &[], "nil"),
 ];
 
-type Case = (u16, u64, &'static [Arg], &'static str);
+type Case = (Kind, Label, &'static [Arg], &'static str);
 
 /// The place of the first case that gives something else.
 fn first_other(alloc: Global, cases: &[Case]) -> Result<Option<usize>, AllocError> {
@@ -191,7 +248,7 @@ fn first_other(alloc: Global, cases: &[Case]) -> Result<Option<usize>, AllocErro
 
 fn gives(alloc: Global, case: &Case) -> Result<bool, AllocError> {
     let args = arg_vals(alloc, case.2)?;
-    let made = go_made(alloc, Kind(case.0), Label(case.1), args.as_slice())?;
+    let made = go_made(alloc, case.0, case.1, args.as_slice())?;
     let text = printed(alloc, &made)?;
     Ok(text.as_str() == case.3)
 }
@@ -233,7 +290,7 @@ fn arg_val(alloc: Global, arg: Arg) -> Result<ArgVal, AllocError> {
 }
 
 fn held(alloc: Global, datum: Datum) -> Result<Held, AllocError> {
-    Held::of(alloc, Answer::Good(datum))
+    Held::of(alloc, Answer::good(datum))
 }
 
 fn text_of(alloc: Global, text: &str) -> Result<Datum, AllocError> {
@@ -368,7 +425,7 @@ fn outputs_give_their_values(rt: HostRuntime) -> Result<(), Fail> {
 fn the_schema_is_the_table(rt: HostRuntime) -> Result<(), Fail> {
     let alloc = rt.alloc();
     assert_eq!(rt;
-        GoKinds::labels(GAME_OBJECT),
+        GoKinds::labels(kinds::GAME_OBJECT),
         [PATH, COMPONENTS, OBJECT, BUILD].as_slice()
     );
     let extra = Role::Input {
@@ -377,15 +434,15 @@ fn the_schema_is_the_table(rt: HostRuntime) -> Result<(), Fail> {
         cascade: false,
         substitute: true,
     };
-    assert_eq!(rt; GoKinds::role(SUM, EXTRA), extra);
-    assert_eq!(rt; GoKinds::role(NUM, EXTRA), Role::Nothing);
-    let stands_in = GoKinds::substitute(alloc, SUM, EXTRA)?;
-    let text = printed(alloc, &Made::Good(stands_in))?;
+    assert_eq!(rt; GoKinds::role(kinds::SUM, EXTRA), extra);
+    assert_eq!(rt; GoKinds::role(kinds::NUM, EXTRA), Role::Nothing);
+    let stands_in = GoKinds::substitute(alloc, kinds::SUM, EXTRA)?;
+    let text = printed(alloc, &Made::good(stands_in))?;
     assert_eq!(rt; text.as_str(), "0");
-    let turned = GoKinds::default(alloc, COMPONENT_REF, ROTATION)?;
-    let text = printed(alloc, &Made::Good(turned))?;
+    let turned = GoKinds::default(alloc, kinds::COMPONENT_REF, ROTATION)?;
+    let text = printed(alloc, &Made::good(turned))?;
     assert_eq!(rt; text.as_str(), "<0 0 0 1000000000>");
-    assert!(rt; GoKinds::is_open(COMPONENT_REF));
-    assert_eq!(rt; GoKinds::args(JOIN, JOINED).len(), 2);
+    assert!(rt; GoKinds::is_open(kinds::COMPONENT_REF));
+    assert_eq!(rt; GoKinds::args(kinds::JOIN, JOINED).len(), 2);
     Ok(())
 }

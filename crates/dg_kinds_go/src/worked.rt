@@ -5,11 +5,11 @@ ghost use Rattle.dg_base.specs.declared.answer.FaultCode.TheVariants as code;
 ghost use Rattle.dg_base.specs.declared.datum.Datum.TheVariants as datum;
 ghost use Rattle.dg_base.specs.declared.schema.ArgVal.TheVariants as arg_val;
 ghost use Rattle.dg_base.specs.declared.schema.Made.TheVariants as made;
-ghost use Rattle.dg_kinds_go.specs.Components.{replaced};
+ghost use Rattle.dg_base.specs.Value.{made_good};
+ghost use Rattle.dg_kinds_go.specs.Components.{is_type_name, replaced};
 ghost use Rattle.dg_kinds_go.specs.Join.{glued};
-ghost use Rattle.dg_kinds_go.specs.Objects.{has_equals};
+ghost use Rattle.dg_kinds_go.specs.Objects.{has_equals, is_go_path};
 ghost use Rattle.dg_kinds_go.specs.Sum.{sum_total};
-ghost use Rattle.dg_kinds_go.specs.Words.{is_go_path, is_type_name};
 ghost use Rattle.dg_kinds_go.specs.Worked.{one, number, other_number, hash};
 
 /// The glue stands between two parts alone.
@@ -20,7 +20,7 @@ pub fn joins()
 
 /// A sum without a source for `extra`, and one that is one past the largest number.
 pub fn sums()
-    ensures empty { sum_total (arg_val.Many [] ∷ arg_val.Nil ∷ []) ≡ made.Good (datum.Dec (pos 0)) }
+    ensures empty { sum_total (arg_val.Many [] ∷ arg_val.Nil ∷ []) ≡ made_good (datum.Dec (pos 0)) }
     ensures past { sum_total (one (datum.Dec (pos 9223372036854775807)) ∷ one (datum.Dec (pos 1)) ∷ []) ≡ made.Fault code.Range }
 {}
 

@@ -1,41 +1,40 @@
--- The test that the rows of a schema have to pass. What else the laws of a schema ask for holds of
+-- The test that the kinds of a schema have to pass. What else the laws of a schema ask for holds of
 -- any rows: a preset says its type, and an array has no place for a substitute.
-use Rattle.std.specs.Prelude.{List, Bool, true, false, ◌&&◌, Some, map, nat_lt}
+use Rattle.std.specs.Prelude.{List, [], ◌∷◌, Bool, true, false, ◌&&◌, Some, map, nat_lt}
 use Rattle.std.specs.List.{list_all}
-use Rattle.dg_base.specs.declared.schema.Role.{Role}
-use Rattle.dg_base.specs.declared.schema.Role.TheVariants as role
+use Rattle.dg_base.specs.declared.ids.Label.{Label}
+use Rattle.dg_base.specs.declared.ids.TheConstants.{FIRST_OPEN}
 use Rattle.dg_base.specs.declared.schema.ArgSpec.{ArgSpec}
 use Rattle.dg_base.specs.declared.schema.ArgSpec.TheVariants as arg
+use Rattle.dg_base.specs.Same.{same_label}
 use Rattle.dg_base.specs.Order.{rises}
-use Rattle.dg_rows.specs.Rows.{Line, KindOf, meaning_at, role_of, args_of, labels_of}
+use Rattle.dg_base.specs.Role.{is_given, is_input}
+use Rattle.dg_rows.specs.Rows.{PlainRow, PlainKind, entry_at, role_of, args_of}
 
-abbrev pub is_low : Line → Bool
-is_low x = nat_lt x.label.0 1024
+-- the labels are those of the rows, one by one
+abbrev pub are_labels : List Label → List PlainRow → Bool
+are_labels [] [] = true
+are_labels (l ∷ ls) (x ∷ xs) = same_label l x.0 && are_labels ls xs
+are_labels _ _ = false
+
+abbrev pub is_low : Label → Bool
+is_low l = nat_lt l.0 FIRST_OPEN
 
 -- the labels rise, so none stands twice
-abbrev pub are_in_order : List Line → Bool
-are_in_order xs = rises (map (λ l. l.0) (labels_of xs))
-
-abbrev pub is_given : Role → Bool
-is_given (role.Property t) = true
-is_given (role.Output t cached) = true
-is_given _ = false
-
-abbrev pub is_input : Role → Bool
-is_input (role.Input t array cascade substitute) = true
-is_input _ = false
+abbrev pub are_in_order : List Label → Bool
+are_in_order ls = rises (map (λ l. l.0) ls)
 
 -- an argument names a property or output, or an input, of the kind
-abbrev pub names : List Line → ArgSpec → Bool
-names xs (arg.Own l) = is_given (role_of (meaning_at xs l))
-names xs (arg.Input i) = is_input (role_of (meaning_at xs i))
+abbrev pub names : List PlainRow → ArgSpec → Bool
+names xs (arg.Own l) = is_given (role_of (entry_at xs l))
+names xs (arg.Input i) = is_input (role_of (entry_at xs i))
 names xs arg.Open = true
 
-abbrev pub are_named : List Line → Line → Bool
-are_named xs x = list_all (names xs) (args_of (Some x.meaning))
+abbrev pub are_named : List PlainRow → PlainRow → Bool
+are_named xs x = list_all (names xs) (args_of (Some x.1))
 
-abbrev pub is_fit : List Line → Bool
-is_fit xs = list_all is_low xs && (are_in_order xs && list_all (are_named xs) xs)
+abbrev pub is_fit : List Label → List PlainRow → Bool
+is_fit ls xs = are_labels ls xs && (list_all is_low ls && (are_in_order ls && list_all (are_named xs) xs))
 
-abbrev pub are_fit : List KindOf → Bool
-are_fit kinds = list_all (λ k. is_fit k.lines) kinds
+abbrev pub are_fit : List PlainKind → Bool
+are_fit kinds = list_all (λ k. is_fit k.labels k.rows) kinds

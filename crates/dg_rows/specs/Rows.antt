@@ -1,5 +1,5 @@
 -- Kinds as rows, and the tables of a schema as look-ups in them.
-use Rattle.std.specs.Prelude.{List, [], ◌∷◌, Bool, true, false, cond, ◌==◌, Option, Some, None, map}
+use Rattle.std.specs.Prelude.{List, [], ◌∷◌, Bool, true, false, cond, ◌==◌, Option, Some, None}
 use Rattle.dg_base.specs.declared.ids.Label.{Label}
 use Rattle.dg_base.specs.declared.ids.Kind.{Kind}
 use Rattle.dg_base.specs.declared.datum.Datum.{Datum}
@@ -11,33 +11,24 @@ use Rattle.dg_base.specs.declared.schema.Role.TheVariants as role
 use Rattle.dg_base.specs.declared.schema.ArgSpec.{ArgSpec}
 use Rattle.dg_base.specs.declared.schema.ArgVal.{ArgVal}
 use Rattle.dg_base.specs.declared.schema.Made.{Made}
+use Rattle.dg_base.specs.Same.{same_label}
 use Rattle.dg_base.specs.Tables.{Tables}
 use Rattle.dg_rows.specs.declared.row.Preset.{Preset}
 use Rattle.dg_rows.specs.declared.row.Preset.TheVariants as preset
+use Rattle.dg_rows.specs.declared.row.Entry.{Entry}
+use Rattle.dg_rows.specs.declared.row.Entry.TheVariants.{Property, Single, Substituted, Array, Owned, OwnedArray, Output, Cached}
+use Rattle.dg_rows.specs.declared.row.Row.{Row}
+use Rattle.dg_rows.specs.declared.kind.KindRows.{KindRows}
 
--- what a label is to a kind
-pub data Meaning : Type 0 where
-  Property : Preset → Meaning  -- a property and its default
-  Single : Ty → Meaning  -- an input that takes one source
-  Substituted : Preset → Meaning  -- one where a value stands in for a bad source
-  Array : Ty → Meaning  -- an input that takes several sources
-  Owned : Ty → Meaning  -- an input that takes one source, and owns it
-  OwnedArray : Ty → Meaning  -- an input that takes several sources, and owns them
-  Output : Ty → List ArgSpec → Meaning  -- an output and its arguments
-  Cached : Ty → List ArgSpec → Meaning  -- one that is kept in the shared cache
+-- rows and kinds that hold their lists as lists
+abbrev pub PlainEntry : Type 0
+PlainEntry = Entry (List ArgSpec)
 
-pub record Line : Type 0 where
-  pub label : Label
-  pub meaning : Meaning
+abbrev pub PlainRow : Type 0
+PlainRow = Row (List ArgSpec)
 
-abbrev pub line : Label → Meaning → Line
-line l m = record { label = l; meaning = m }
-
--- a kind: whether it is open, and its labels in order, each with what it is
-pub record KindOf : Type 0 where
-  pub kind : Kind
-  pub is_open : Bool
-  pub lines : List Line
+abbrev pub PlainKind : Type 0
+PlainKind = KindRows (List Label) (List PlainRow)
 
 -- a preset says its type and its value
 abbrev pub type_of : Preset → Ty
@@ -54,12 +45,12 @@ datum_of (preset.Flag b) = datum.Flag b
 datum_of (preset.Vec3 v) = datum.Vec3 v
 datum_of (preset.Quat v) = datum.Quat v
 
--- the first line with a label
-abbrev pub meaning_at : List Line → Label → Option Meaning
-meaning_at [] l = None
-meaning_at (x ∷ xs) l = cond (l.0 == x.label.0) (Some x.meaning) (meaning_at xs l)
+-- what the first row of a label says
+abbrev pub entry_at : List PlainRow → Label → Option PlainEntry
+entry_at [] l = None
+entry_at (x ∷ xs) l = cond (same_label l x.0) (Some x.1) (entry_at xs l)
 
-abbrev pub role_of : Option Meaning → Role
+abbrev pub role_of : Option PlainEntry → Role
 role_of None = role.Nothing
 role_of (Some (Property p)) = role.Property (type_of p)
 role_of (Some (Single t)) = role.Input t false false false
@@ -70,39 +61,53 @@ role_of (Some (OwnedArray t)) = role.Input t true true false
 role_of (Some (Output t args)) = role.Output t false
 role_of (Some (Cached t args)) = role.Output t true
 
-abbrev pub args_of : Option Meaning → List ArgSpec
+abbrev pub args_of : Option PlainEntry → List ArgSpec
 args_of (Some (Output t args)) = args
 args_of (Some (Cached t args)) = args
 args_of _ = []
 
-abbrev pub preset_of : Option Meaning → Datum
+abbrev pub preset_of : Option PlainEntry → Datum
 preset_of (Some (Property p)) = datum_of p
 preset_of _ = datum.Nil
 
-abbrev pub substitute_of : Option Meaning → Datum
+abbrev pub substitute_of : Option PlainEntry → Datum
 substitute_of (Some (Substituted p)) = datum_of p
 substitute_of _ = datum.Nil
 
--- a kind that isn't in the list has no labels and isn't open
-abbrev pub lines_of : List KindOf → Kind → List Line
-lines_of [] k = []
-lines_of (x ∷ xs) k = cond (k.0 == x.kind.0) x.lines (lines_of xs k)
+-- the kind of a number; one that isn't in the table has no labels, no rows, and isn't open
+abbrev pub kind_at : List PlainKind → Kind → Option PlainKind
+kind_at [] k = None
+kind_at (x ∷ xs) k = cond (k.0 == x.kind.0) (Some x) (kind_at xs k)
 
-abbrev pub is_open_in : List KindOf → Kind → Bool
-is_open_in [] k = false
-is_open_in (x ∷ xs) k = cond (k.0 == x.kind.0) x.is_open (is_open_in xs k)
+abbrev pub rows_of : Option PlainKind → List PlainRow
+rows_of None = []
+rows_of (Some x) = x.rows
 
-abbrev pub labels_of : List Line → List Label
-labels_of xs = map (λ x. x.label) xs
+abbrev pub labels_of : Option PlainKind → List Label
+labels_of None = []
+labels_of (Some x) = x.labels
+
+abbrev pub is_open_of : Option PlainKind → Bool
+is_open_of None = false
+is_open_of (Some x) = x.is_open
+
+abbrev pub rows_in : List PlainKind → Kind → List PlainRow
+rows_in kinds k = rows_of (kind_at kinds k)
+
+abbrev pub labels_in : List PlainKind → Kind → List Label
+labels_in kinds k = labels_of (kind_at kinds k)
+
+abbrev pub is_open_in : List PlainKind → Kind → Bool
+is_open_in kinds k = is_open_of (kind_at kinds k)
 
 -- the tables of a schema that has these kinds and productions
-abbrev pub tables_of : List KindOf → (Kind → Label → List ArgVal → Made) → Tables
+abbrev pub tables_of : List PlainKind → (Kind → Label → List ArgVal → Made) → Tables
 tables_of kinds produce = record {
-  labels = λ k. labels_of (lines_of kinds k);
-  role = λ k l. role_of (meaning_at (lines_of kinds k) l);
+  labels = λ k. labels_in kinds k;
+  role = λ k l. role_of (entry_at (rows_in kinds k) l);
   is_open = λ k. is_open_in kinds k;
-  args = λ k l. args_of (meaning_at (lines_of kinds k) l);
-  preset = λ k l. preset_of (meaning_at (lines_of kinds k) l);
-  substitute = λ k l. substitute_of (meaning_at (lines_of kinds k) l);
+  args = λ k l. args_of (entry_at (rows_in kinds k) l);
+  preset = λ k l. preset_of (entry_at (rows_in kinds k) l);
+  substitute = λ k l. substitute_of (entry_at (rows_in kinds k) l);
   produce = produce;
 }

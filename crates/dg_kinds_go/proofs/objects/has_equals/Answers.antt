@@ -5,8 +5,8 @@ use Rattle.std.specs.Cmp.Lexicographic.{slice_cmp}
 use Rattle.std.specs.Ordering.{nat_cmp}
 use Rattle.std.proofs.lemmas.List.{drop_more}
 use Rattle.std.proofs.lemmas.Map.Text.{is_eq-slice_cmp}
-use Rattle.dg_kinds_go.specs.Words.{is_word}
-use Rattle.dg_kinds_go.proofs.Equals.{repeats, seen_in, texts_of, was_seen, unseen, from_none, seen_before, seen_more}
+use Rattle.std.specs.Str.{bytes_eq}
+use Rattle.dg_kinds_go.proofs.EqualTexts.{repeats, seen_in, texts_of, was_seen, unseen, from_none, seen_before, seen_more}
 use Rattle.dg_kinds_go.proofs.objects.has_equals.Goals as goal
 
 abbrev bare : List ℕ → Bor (List ℕ)
@@ -32,7 +32,7 @@ loop-text-preserved c =
     let i = c.loop-text.text-index in
     let old = seen_in c.loop-text.seen in
     let text = (get_or all i (bare [])).now in
-    let more : (q : List ℕ) → seen_in c.insert.new.self q ≡ cond (is_word text q) true (old q) =
+    let more : (q : List ℕ) → seen_in c.insert.new.self q ≡ cond (bytes_eq text q) true (old q) =
     λ q. c.in-Ok-true.ensures.updates.0 (bare q) ∙ ap (λ b. cond b true (old q)) (is_eq-slice_cmp text q) in
     seen_more old (seen_in c.insert.new.self) text (texts_of (drop (i + 1) all)) _
     (unseen _ _ c.in-Ok-true.ensures.added c.in-Ok-true.field-0-test) more
