@@ -1,0 +1,2 @@
+-- What the two stacks are.
+pub mod History
