@@ -1,7 +1,8 @@
 -- What files in memory are seen as.
 use Rattle.std.specs.Prelude.{ℕ, suc, if◌then◌else◌, List, [], ◌∷◌, String, Vec, string_bytes}
 use Rattle.std.specs.declared.alloc.Global.{Global}
-use Rattle.dg_files.specs.Tree.{Tree, is_same}
+use Rattle.std.specs.Str.{bytes_eq}
+use Rattle.dg_files.specs.Tree.{Tree}
 use Rattle.dg_files.specs.Plan.{Plan}
 
 -- the tree, and which calls fail
@@ -21,4 +22,4 @@ tree_of (file ∷ files) = record { path = string_bytes file.0; bytes = file.1.i
 -- how many files stand before that of a path, which is all of them where there is none
 abbrev pub place_in : Tree → List ℕ → ℕ
 place_in [] path = 0
-place_in (file ∷ files) path = if is_same file.path path then 0 else suc (place_in files path)
+place_in (file ∷ files) path = if bytes_eq file.path path then 0 else suc (place_in files path)

@@ -1,17 +1,23 @@
 -- What a call of the outside leaves, beside what it answers.
 use Rattle.std.specs.Prelude.{◌≡◌, ◌≢◌, ℕ, ◌+◌, ◌-◌, ◌^◌, ◌≤◌, ◌⊎◌, min, List, take, Option, Some, None, Result, Err}
 use Rattle.dg_files.specs.Tree.{Tree, bytes_at}
-use Rattle.dg_files.specs.declared.refusal.Refusal.{Refusal}
-use Rattle.dg_files.specs.declared.refusal.Refusal.TheVariants.{Failed}
+use Rattle.dg_base.specs.declared.refusal.Refusal.{Refusal}
+use Rattle.dg_base.specs.declared.refusal.Refusal.TheVariants.{Because}
+use Rattle.dg_files.specs.declared.refusal.Failed.{Failed}
 
--- the count rose, or stands at the greatest u64
+-- that the outside failed
+abbrev pub failure : Refusal Failed
+failure = Because (record {})
+
+-- the count rose, or stands at the greatest u64. There a failure can't be told from none: nothing fails
+-- so often, but no contract says that
 abbrev pub Rose : ℕ → ℕ → Type 0
 Rose before now = min (before + 1) (2 ^ 64 - 1) ≤ now
 
 -- the count never falls, and it rose where the call failed
-pub record HasCause {T : Type 0} (before now : ℕ) (outcome : Result T Refusal) : Type 0 where
+pub record HasCause {T : Type 0} (before now : ℕ) (outcome : Result T (Refusal Failed)) : Type 0 where
   pub never_falls : before ≤ now
-  pub failed : outcome ≡ Err Failed → Rose before now
+  pub failed : outcome ≡ Err failure → Rose before now
 
 -- what never fails goes on so, and its count stays
 abbrev pub StaysSound : {S : Type 0} → (S → Type 0) → (S → ℕ) → S → S → Type 0

@@ -1,7 +1,7 @@
 -- A tree of files: what its paths have, what is listed, and what a write leaves.
 use Rattle.std.specs.Prelude.{ℕ, ◌==◌, nat_eq, nat_lt, Bool, true, false, not, ◌&&◌, ◌||◌, if◌then◌else◌, List, [], ◌∷◌, length, codes, Option, Some, None, is_none}
 use Rattle.std.specs.List.{starts_with}
-use Rattle.std.specs.Cmp.Lexicographic.{pointwise}
+use Rattle.std.specs.Str.{bytes_eq}
 use Rattle.dg_files.specs.declared.files.Got.{Got}
 use Rattle.dg_files.specs.declared.files.Got.TheVariants.{Absent, Whole, Longer}
 use Rattle.dg_files.specs.declared.files.Listing.{Listing}
@@ -15,14 +15,10 @@ pub record File : Type 0 where
 abbrev pub Tree : Type 0
 Tree = List File
 
--- whether two paths are the same
-abbrev pub is_same : List ℕ → List ℕ → Bool
-is_same = pointwise ◌==◌
-
 -- the bytes of the file at a path, if there is one
 abbrev pub bytes_at : Tree → List ℕ → Option (List ℕ)
 bytes_at [] path = None
-bytes_at (file ∷ files) path = if is_same file.path path then Some file.bytes else bytes_at files path
+bytes_at (file ∷ files) path = if bytes_eq file.path path then Some file.bytes else bytes_at files path
 
 -- whether no path stands twice
 abbrev pub are_distinct : Tree → Bool
@@ -38,7 +34,7 @@ got_of (Some bytes) most = if nat_lt most (length bytes) then Longer else Whole 
 abbrev pub written : Tree → List ℕ → List ℕ → Tree
 written [] path bytes = record { path = path; bytes = bytes } ∷ []
 written (file ∷ files) path bytes =
-    if is_same file.path path then record { path = file.path; bytes = bytes } ∷ files
+    if bytes_eq file.path path then record { path = file.path; bytes = bytes } ∷ files
     else file ∷ written files path bytes
 
 -- whether a `.` (46) begins a segment: it stands first, or right behind a `/` (47)

@@ -1,7 +1,10 @@
+//! The calls of an object in memory.
 ghost use Rattle.std.specs.Prelude.{◌≡◌, ◌≤◌, []};
+ghost use Rattle.dg_files.specs.Outcome.{failure};
 
 use super::fault_count::FaultCount;
-use super::refusal::Refusal;
+use super::refusal::Failed;
+use dg_base::Refusal;
 use std::marker::Model;
 
 /// Which calls of an object in memory fail, by their numbers from 1, and how many did. Both counts
@@ -51,8 +54,8 @@ impl Calls {
     }
 
     /// Counts a call that fails, and answers the failure.
-    pub fn failure(&mut self) -> Refusal
-        ensures refusal { result ≡ Refusal.Failed }
+    pub fn failure(&mut self) -> Refusal<Failed>
+        ensures refusal { result ≡ failure }
         ensures counted { self.new ≡ failed self.old }
         ensures rises { self.old.faults ≤ self.new.faults }
     {

@@ -1,3 +1,4 @@
+//! Files with their bytes, as they are kept in memory.
 ghost use Rattle.std.specs.Prelude.{◌≡◌, ◌++◌, ℕ, IfOk, OnOk, OnErr};
 ghost use Rattle.std.specs.Option.{option_map};
 ghost use Rattle.dg_files.specs.Tree.{are_distinct, bytes_at, listed, written};

@@ -1,8 +1,10 @@
+//! How often an object has failed.
 ghost use Rattle.std.specs.Prelude.{◌≡◌, ℕ, ◌≤◌};
 ghost use Rattle.dg_files.specs.Plan.{one_more};
-ghost use Rattle.dg_files.specs.Outcome.{Rose};
+ghost use Rattle.dg_files.specs.Outcome.{Rose, failure};
 
-use super::refusal::Refusal;
+use super::refusal::Failed;
+use dg_base::Refusal;
 use std::io::ErrorKind;
 use std::marker::Model;
 
@@ -33,18 +35,18 @@ impl FaultCount {
     }
 
     /// Counts a failure, and answers it.
-    pub fn failure(&mut self) -> Refusal
-        ensures refusal { result ≡ Refusal.Failed }
+    pub fn failure(&mut self) -> Refusal<Failed>
+        ensures refusal { result ≡ failure }
         ensures counted { self.new ≡ one_more self.old }
         ensures rises { self.old ≤ self.new }
     {
         self.number = self.number.saturating_add(1);
-        Refusal::Failed
+        Refusal::Because(Failed)
     }
 
     /// What an error of the system is: want of memory, which isn't counted, or a failure.
-    pub fn refusal(&mut self, kind: ErrorKind) -> Refusal
-        ensures failed { result ≡ Refusal.Failed → Rose self.old self.new }
+    pub fn refusal(&mut self, kind: ErrorKind) -> Refusal<Failed>
+        ensures failed { result ≡ failure → Rose self.old self.new }
         ensures rises { self.old ≤ self.new }
     {
         if kind == ErrorKind::OutOfMemory {

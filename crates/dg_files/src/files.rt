@@ -1,8 +1,9 @@
+//! The files of the outside.
 ghost use Rattle.std.specs.Prelude.{◌≡◌, ℕ, List, Option, IfOk, OnOk, IfSome, IsErrOf, IsTrue};
 ghost use Rattle.std.specs.Option.{option_map};
 
-use super::refusal::Refusal;
-use dg_base::Str;
+use super::refusal::Failed;
+use dg_base::{Refusal, Str};
 use sqlite_items::Items;
 use std::alloc::Global;
 
@@ -41,12 +42,13 @@ pub enum Listing {
 /// falls.
 pub trait Files {
     ghost use Rattle.dg_files.specs.Tree.{Tree, are_distinct, bytes_at, got_of, listing_of, written};
-    ghost use Rattle.dg_files.specs.Outcome.{HasCause, StaysSound, IsLeftByFailure};
+    ghost use Rattle.dg_files.specs.Outcome.{HasCause, StaysSound, IsLeftByFailure, failure};
 
     /// All files with their bytes, where it tells them.
     ghost tree: { Self → Option Tree };
 
-    /// How many calls have failed. The greatest u64 stands for itself and every greater number.
+    /// How many calls have failed. The greatest u64 stands for itself and every greater number: there,
+    /// after 2^64 - 1 failures, one more can't be told from none.
     ghost faults: { Self → ℕ };
 
     /// That no call of it ever fails.
@@ -54,7 +56,7 @@ pub trait Files {
 
     /// The paths that are to be given: all but those that begin with `/build/` or have a segment that
     /// begins with `.`. More than 65,536 of them are `More`.
-    fn list(&mut self, alloc: Global) -> Result<Listing, Refusal>
+    fn list(&mut self, alloc: Global) -> Result<Listing, Refusal<Failed>>
         ensures listing { IfOk result (λ l. IfSome (tree self.old) (λ t. l ≡ listing_of t)) }
         ensures same { tree self.new ≡ tree self.old }
         ensures distinct { IfSome (tree self.new) (λ t. IsTrue (are_distinct t)) }
@@ -62,7 +64,7 @@ pub trait Files {
         ensures sound { StaysSound is_sound faults self.old self.new };
 
     /// The bytes of the file at the path, if they are at most `most`.
-    fn read(&mut self, alloc: Global, path: &str, most: usize) -> Result<Got, Refusal>
+    fn read(&mut self, alloc: Global, path: &str, most: usize) -> Result<Got, Refusal<Failed>>
         ensures got { IfOk result (λ g. IfSome (tree self.old) (λ t. g ≡ got_of (bytes_at t path.now) most)) }
         ensures same { tree self.new ≡ tree self.old }
         ensures distinct { IfSome (tree self.new) (λ t. IsTrue (are_distinct t)) }
@@ -70,11 +72,11 @@ pub trait Files {
         ensures sound { StaysSound is_sound faults self.old self.new };
 
     /// Puts the bytes at the path, in place of what is there. Other paths keep theirs.
-    fn write(&mut self, alloc: Global, path: &str, bytes: &[u8]) -> Result<(), Refusal>
+    fn write(&mut self, alloc: Global, path: &str, bytes: &[u8]) -> Result<(), Refusal<Failed>>
         ensures ok { OnOk result (tree self.new ≡ option_map (λ t. written t path.now bytes.now) (tree self.old)) }
 
         // After a failure the path is absent, as it was, or has a first part of the bytes.
-        ensures failed { IsErrOf result Refusal.Failed → IsLeftByFailure (tree self.old) (tree self.new) path.now bytes.now }
+        ensures failed { IsErrOf result failure → IsLeftByFailure (tree self.old) (tree self.new) path.now bytes.now }
         ensures no_memory { IsErrOf result Refusal.NoMemory → tree self.new ≡ tree self.old }
         ensures distinct { IfSome (tree self.new) (λ t. IsTrue (are_distinct t)) }
         ensures cause { HasCause (faults self.old) (faults self.new) result }

@@ -1,10 +1,11 @@
+//! Files in a folder.
 ghost use Rattle.std.specs.Prelude.{◌≡◌, ℕ};
 
 use super::fault_count::FaultCount;
 use super::files::{Bytes, Files, Got, Listing, MOST_LISTED, Paths};
 use super::listed::is_listed;
-use super::refusal::Refusal;
-use dg_base::Str;
+use super::refusal::Failed;
+use dg_base::{Refusal, Str};
 use std::alloc::{AllocError, Global};
 use std::io::{self, ErrorKind, Read};
 use std::marker::Model;
@@ -176,7 +177,7 @@ impl<R: rt::Files + AllocGlobal + Clone + Drop> Files for DirFiles<R> {
 
     /// Regular files, and links to them, sorted by their paths. A folder that a link leads to isn't
     /// gone into. A name that isn't UTF-8 is a failure.
-    fn list(&mut self, alloc: Global) -> Result<Listing, Refusal> {
+    fn list(&mut self, alloc: Global) -> Result<Listing, Refusal<Failed>> {
         match self.listing(alloc) {
             Ok(listing) => Ok(listing),
             Err(error) => Err(self.count.refusal(error.kind())),
@@ -184,7 +185,7 @@ impl<R: rt::Files + AllocGlobal + Clone + Drop> Files for DirFiles<R> {
     }
 
     /// Reads at most one byte more than `most`. What isn't a regular file is absent.
-    fn read(&mut self, alloc: Global, path: &str, most: usize) -> Result<Got, Refusal> {
+    fn read(&mut self, alloc: Global, path: &str, most: usize) -> Result<Got, Refusal<Failed>> {
         match self.got_at(alloc, path, most) {
             Ok(got) => Ok(got),
             Err(error) => Err(self.count.refusal(error.kind())),
@@ -192,7 +193,7 @@ impl<R: rt::Files + AllocGlobal + Clone + Drop> Files for DirFiles<R> {
     }
 
     /// Makes the folders on the way that are missing.
-    fn write(&mut self, alloc: Global, path: &str, bytes: &[u8]) -> Result<(), Refusal> {
+    fn write(&mut self, alloc: Global, path: &str, bytes: &[u8]) -> Result<(), Refusal<Failed>> {
         let place = self.place_of(alloc, path)?;
         match self.write_at(&place, bytes) {
             Ok(()) => Ok(()),

@@ -1,3 +1,4 @@
+//! A law of the definitions.
 ghost use Rattle.std.specs.Prelude.{◌≡◌, ◌≢◌, ℕ, List, Some, IsTrue};
 ghost use Rattle.dg_files.specs.Tree.{Tree, are_distinct, bytes_at, written};
 

@@ -8,6 +8,10 @@
 //! `MemFiles` and `MemSink` keep everything in memory, tell it, and fail at the calls that they are
 //! given. `DirFiles` over a folder and `StdSink` over standard output are the edge to the system:
 //! they tell nothing of their content and count their failures.
+//!
+//! A refusal is `dg_base::Refusal<Failed>`. In reading order: `files` and `sink` are the traits, `refusal`
+//! why they give no answer, `fault_count` and `calls` what counts, `entries`, `listed`, `memory_files` and
+//! `memory_sink` what is in memory, `folder` and `output` the edge, `law` what a write leaves.
 #![tactic(auto)]
 
 mod calls;
@@ -31,7 +35,7 @@ pub use listed::is_listed;
 pub use memory_files::MemFiles;
 pub use memory_sink::MemSink;
 pub use output::StdSink;
-pub use refusal::Refusal;
+pub use refusal::Failed;
 pub use sink::Sink;
 
 #[cfg(test)]

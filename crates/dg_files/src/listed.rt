@@ -1,3 +1,4 @@
+//! Which paths a listing gives.
 ghost use Rattle.std.specs.Prelude.{◌≡◌, true};
 ghost use Rattle.dg_files.specs.Tree.{is_listed, has_hidden};
 

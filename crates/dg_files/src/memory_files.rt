@@ -1,12 +1,15 @@
+//! Files in memory.
 ghost use Rattle.std.specs.Prelude.{◌≡◌, ℕ, ◌↔◌, [], Some, IsTrue, IfOk, OnOk, OnErr, IsErrOf};
 ghost use Rattle.std.specs.Option.{option_map};
 ghost use Rattle.dg_files.specs.Tree.{are_distinct, bytes_at, got_of, listing_of};
 ghost use Rattle.dg_files.specs.Kept.{tree_of};
+ghost use Rattle.dg_files.specs.Outcome.{failure};
 
 use super::calls::Calls;
 use super::entries;
 use super::files::{Bytes, Files, Got, Listing, MOST_LISTED};
-use super::refusal::Refusal;
+use super::refusal::Failed;
+use dg_base::Refusal;
 use std::alloc::{AllocError, Global};
 use std::marker::Model;
 
@@ -100,11 +103,11 @@ impl Files for MemFiles {
 
     /// A call for which there is no memory isn't numbered. Paths stand in the order in which they
     /// were given or first written.
-    fn list(&mut self, alloc: Global) -> Result<Listing, Refusal>
+    fn list(&mut self, alloc: Global) -> Result<Listing, Refusal<Failed>>
         ensures listing { IfOk result (λ l. l ≡ listing_of self.old.tree) }
         ensures ok { OnOk result (self.new ≡ record self.old { calls = passed self.old.calls }) }
-        ensures fails { IsErrOf result Refusal.Failed ↔ IsTrue (fails_next self.old.calls) }
-        ensures failed { IsErrOf result Refusal.Failed → self.new ≡ record self.old { calls = failed self.old.calls } }
+        ensures fails { IsErrOf result failure ↔ IsTrue (fails_next self.old.calls) }
+        ensures failed { IsErrOf result failure → self.new ≡ record self.old { calls = failed self.old.calls } }
         ensures no_memory { IsErrOf result Refusal.NoMemory → self.new ≡ self.old }
         ensures distinct { IsTrue (are_distinct self.new.tree) }
         ensures cause { HasCause self.old.calls.faults self.new.calls.faults result }
@@ -118,11 +121,11 @@ impl Files for MemFiles {
     }
 
     /// A call for which there is no memory isn't numbered. Time linear in the number of the files.
-    fn read(&mut self, alloc: Global, path: &str, most: usize) -> Result<Got, Refusal>
+    fn read(&mut self, alloc: Global, path: &str, most: usize) -> Result<Got, Refusal<Failed>>
         ensures got { IfOk result (λ g. g ≡ got_of (bytes_at self.old.tree path.now) most) }
         ensures ok { OnOk result (self.new ≡ record self.old { calls = passed self.old.calls }) }
-        ensures fails { IsErrOf result Refusal.Failed ↔ IsTrue (fails_next self.old.calls) }
-        ensures failed { IsErrOf result Refusal.Failed → self.new ≡ record self.old { calls = failed self.old.calls } }
+        ensures fails { IsErrOf result failure ↔ IsTrue (fails_next self.old.calls) }
+        ensures failed { IsErrOf result failure → self.new ≡ record self.old { calls = failed self.old.calls } }
         ensures no_memory { IsErrOf result Refusal.NoMemory → self.new ≡ self.old }
         ensures distinct { IsTrue (are_distinct self.new.tree) }
         ensures cause { HasCause self.old.calls.faults self.new.calls.faults result }
@@ -137,10 +140,10 @@ impl Files for MemFiles {
 
     /// A call for which there is no memory isn't numbered, and one that fails leaves the tree as it
     /// was. Time linear in the number of the files.
-    fn write(&mut self, _alloc: Global, path: &str, bytes: &[u8]) -> Result<(), Refusal>
+    fn write(&mut self, _alloc: Global, path: &str, bytes: &[u8]) -> Result<(), Refusal<Failed>>
         ensures ok { OnOk result (self.new ≡ record { tree = written self.old.tree path.now bytes.now; calls = passed self.old.calls }) }
-        ensures fails { IsErrOf result Refusal.Failed ↔ IsTrue (fails_next self.old.calls) }
-        ensures failed { IsErrOf result Refusal.Failed → self.new ≡ record self.old { calls = failed self.old.calls } }
+        ensures fails { IsErrOf result failure ↔ IsTrue (fails_next self.old.calls) }
+        ensures failed { IsErrOf result failure → self.new ≡ record self.old { calls = failed self.old.calls } }
         ensures no_memory { IsErrOf result Refusal.NoMemory → self.new ≡ self.old }
         ensures distinct { IsTrue (are_distinct self.new.tree) }
         ensures cause { HasCause self.old.calls.faults self.new.calls.faults result }

@@ -1,9 +1,12 @@
+//! A sink in memory.
 ghost use Rattle.std.specs.Prelude.{◌≡◌, ℕ, ◌<◌, ◌≤◌, ◌↔◌, [], ◌++◌, min, length, take, Some, IsTrue, IfOk, OnErr, IsErrOf};
 ghost use Rattle.std.specs.Option.{option_map};
+ghost use Rattle.dg_files.specs.Outcome.{failure};
 
 use super::calls::Calls;
-use super::refusal::Refusal;
+use super::refusal::Failed;
 use super::sink::Sink;
+use dg_base::Refusal;
 use std::alloc::Global;
 use std::marker::Model;
 
@@ -70,12 +73,12 @@ impl Sink for MemSink {
 
     /// Takes as many bytes as it may, unless the call is one of those that fail. A call for which
     /// there is no memory isn't numbered.
-    fn put(&mut self, piece: &[u8]) -> Result<usize, Refusal>
+    fn put(&mut self, piece: &[u8]) -> Result<usize, Refusal<Failed>>
         ensures taken { IfOk result (λ n. n ≡ min (length piece.now) self.old.most) }
         ensures some { IfOk result (λ n. 0 < length piece.now → 0 < n) }
         ensures ok { IfOk result (λ n. self.new ≡ record self.old { bytes = self.old.bytes ++ take n piece.now; calls = passed self.old.calls }) }
-        ensures fails { IsErrOf result Refusal.Failed ↔ IsTrue (fails_next self.old.calls) }
-        ensures failed { IsErrOf result Refusal.Failed → self.new ≡ record self.old { calls = failed self.old.calls } }
+        ensures fails { IsErrOf result failure ↔ IsTrue (fails_next self.old.calls) }
+        ensures failed { IsErrOf result failure → self.new ≡ record self.old { calls = failed self.old.calls } }
         ensures no_memory { IsErrOf result Refusal.NoMemory → self.new ≡ self.old }
         ensures cause { HasCause self.old.calls.faults self.new.calls.faults result }
     {

@@ -1,8 +1,10 @@
+//! Standard output.
 ghost use Rattle.std.specs.Prelude.{◌≡◌, ℕ};
 
 use super::fault_count::FaultCount;
-use super::refusal::Refusal;
+use super::refusal::Failed;
 use super::sink::Sink;
+use dg_base::Refusal;
 use std::io::{self, Write};
 use std::marker::Model;
 
@@ -47,7 +49,7 @@ impl<R: Print + Drop> Sink for StdSink<R> {
 
     /// As many bytes as the system takes at once. To take nothing of a piece that isn't empty is a
     /// failure, as each error of the system is.
-    fn put(&mut self, piece: &[u8]) -> Result<usize, Refusal> {
+    fn put(&mut self, piece: &[u8]) -> Result<usize, Refusal<Failed>> {
         match io::writer(&self.rt).write(piece) {
             Ok(taken) if taken > 0 || piece.is_empty() => Ok(taken),
             _ => Err(self.count.failure()),

@@ -1,7 +1,9 @@
+//! The sink of the outside.
 ghost use Rattle.std.specs.Prelude.{◌≡◌, ℕ, ◌<◌, ◌≤◌, ◌++◌, List, Option, length, take, IfOk, OnErr, IsErrOf};
 ghost use Rattle.std.specs.Option.{option_map};
 
-use super::refusal::Refusal;
+use super::refusal::Failed;
+use dg_base::Refusal;
 
 /// What takes bytes, as standard output does.
 pub trait Sink {
@@ -10,7 +12,8 @@ pub trait Sink {
     /// All bytes that were written, where it tells them.
     ghost bytes: { Self → Option (List ℕ) };
 
-    /// How many calls have failed. The greatest u64 stands for itself and every greater number.
+    /// How many calls have failed. The greatest u64 stands for itself and every greater number: there,
+    /// after 2^64 - 1 failures, one more can't be told from none.
     ghost faults: { Self → ℕ };
 
     /// That no call of it ever fails.
@@ -18,7 +21,7 @@ pub trait Sink {
 
     /// Writes a first part of the piece, and answers how many bytes that is. To take nothing of a
     /// piece that isn't empty is a failure. After a refusal nothing is written.
-    fn put(&mut self, piece: &[u8]) -> Result<usize, Refusal>
+    fn put(&mut self, piece: &[u8]) -> Result<usize, Refusal<Failed>>
         ensures within { IfOk result (λ n. n ≤ length piece.now) }
         ensures some { IfOk result (λ n. 0 < length piece.now → 0 < n) }
         ensures ok { IfOk result (λ n. bytes self.new ≡ option_map (λ bs. bs ++ take n piece.now) (bytes self.old)) }

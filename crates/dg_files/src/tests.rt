@@ -1,7 +1,9 @@
+//! The edge, and each call once.
 use super::{
-    DirFiles, Files, Got, Listing, MemFiles, MemSink, Refusal, Sink, StdSink, are_distinct,
+    DirFiles, Failed, Files, Got, Listing, MemFiles, MemSink, Sink, StdSink, are_distinct,
     is_listed,
 };
+use dg_base::Refusal;
 use std::alloc::{AllocError, Global};
 use std::fs;
 use std::process::Abort;
@@ -19,7 +21,7 @@ fn found<F: Files>(alloc: Global, files: &mut F, path: &str, most: usize) -> &'s
 }
 
 /// The paths that are listed, each behind a blank.
-fn list_text<F: Files>(alloc: Global, files: &mut F) -> Result<String, Refusal> {
+fn list_text<F: Files>(alloc: Global, files: &mut F) -> Result<String, Refusal<Failed>> {
     let Listing::All(paths) = files.list(alloc)? else {
         return Ok(String::from_str(alloc, "more")?);
     };
@@ -32,7 +34,11 @@ fn list_text<F: Files>(alloc: Global, files: &mut F) -> Result<String, Refusal> 
 }
 
 /// Writes each path twice.
-fn write_twice<F: Files>(alloc: Global, files: &mut F, paths: &[&str]) -> Result<(), Refusal> {
+fn write_twice<F: Files>(
+    alloc: Global,
+    files: &mut F,
+    paths: &[&str],
+) -> Result<(), Refusal<Failed>> {
     for path in paths {
         files.write(alloc, path, b"first")?;
         files.write(alloc, path, b"three")?;
@@ -134,7 +140,7 @@ fn a_byte_at_a_put(rt: HostRuntime) -> Result<(), Fail> {
     let mut sink = MemSink::new(alloc, vec![in alloc; 2]?, 1);
     for (piece, answer) in [
         ("ab", Ok(1)),
-        ("bc", Err(Refusal::Failed)),
+        ("bc", Err(Refusal::Because(Failed))),
         ("bc", Ok(1)),
         ("", Ok(0)),
     ] {
