@@ -1,9 +1,10 @@
 //! The answer of a rule from the answers of the endpoints that it names. Nothing here reads a graph.
-ghost use Rattle.std.specs.Prelude.{◌≡◌, ◌≤◌, IfOk, length};
+ghost use Rattle.std.specs.Prelude.{◌≡◌, ◌≤◌, ◌+◌, IfOk, OnOk, length, map};
 ghost use Rattle.std.specs.List.{list_any};
+ghost use Rattle.dg_base.specs.declared.answer.Answer.{Answer};
+ghost use Rattle.dg_base.specs.declared.ids.Endpoint.{Endpoint};
 ghost use Rattle.dg_base.specs.Rule.{named_by_arg, named_by_args, named_by};
-ghost use Rattle.dg_base.specs.Value.{is_cycle, is_bad, one_fault, answer_of, input_value, single_value, produced};
-ghost use Rattle.dg_answer.specs.Answering.{answer_from, arg_from, args_from};
+ghost use Rattle.dg_base.specs.Value.{is_cycle, is_bad, one_fault, answer_by, answer_of, arg_value, input_value, single_value, produced, productions_by, productions_of_call, called_by, one_without, faults_of_args};
 
 use crate::faults::faults_of_args;
 use dg_base::{
@@ -16,7 +17,10 @@ use std::sync::ledger::Ledger;
 /// A produced value may weigh so much.
 pub const MAX_WEIGHT: u64 = 16777216;
 
-/// The answer of a rule, where `answers` are those of the endpoints that it names, in order.
+/// The answer of a rule, where `answers` are those of the endpoints that it names, in order: what the
+/// definition gives for any function that has these answers. It makes one production where the rule is
+/// a call, none of the answers is `Cycle` and no argument stays bad, and no more where memory is
+/// refused.
 pub fn answer_from<S: Schema, L: Ledger>(
     alloc: Global,
     at: Endpoint,
@@ -24,26 +28,50 @@ pub fn answer_from<S: Schema, L: Ledger>(
     answers: &[Held],
     steps: &mut Steps<L>,
 ) -> Result<Held, AllocError>
-    requires { length (named_by rule.now) ≤ length answers.now }
-    ensures { IfOk result (λ a. a ≡ answer_from S.tables at rule.now answers.now) }
+    requires { length (named_by rule.now) ≡ length answers.now }
+    ensures answer { (value : Endpoint → Answer) → answers.now ≡ map value (named_by rule.now) →
+        IfOk result (λ a. a ≡ answer_by S.tables at value rule.now) }
+    ensures steps { (value : Endpoint → Answer) → answers.now ≡ map value (named_by rule.now) →
+        OnOk result (steps.new ≡ steps.old + productions_by S.tables value rule.now) }
+    ensures most { (value : Endpoint → Answer) → answers.now ≡ map value (named_by rule.now) →
+        steps.new ≤ steps.old + productions_by S.tables value rule.now }
 {
     match rule {
         Rule::Absent => Held::of(alloc, one_fault(alloc, at, FaultCode::NoEndpoint)?),
         Rule::Defective => Held::of(alloc, one_fault(alloc, at, FaultCode::Defective)?),
-        Rule::Own(value) => Held::of(alloc, Answer::Good(value.copy(alloc)?)),
+        Rule::Own(value) => Held::of(alloc, Answer::good(value.copy(alloc)?)),
         Rule::From(_) => answers[0].share(),
-        Rule::Default(value) => Held::of(alloc, Answer::Good(value.copy(alloc)?)),
+        Rule::Default(value) => Held::of(alloc, Answer::good(value.copy(alloc)?)),
         Rule::Call { kind, label, args } => {
-            if has_cycle(answers) {
-                return Held::of(alloc, Answer::Cycle);
-            }
-            let values = arg_values::<S>(alloc, *kind, args.as_slice(), answers)?;
-            Held::of(
-                alloc,
-                produced::<S, L>(alloc, at, *kind, *label, &values, steps)?,
-            )
+            let answer = called::<S, L>(alloc, at, *kind, *label, args.as_slice(), answers, steps)?;
+            Held::of(alloc, answer)
         }
     }
+}
+
+// The answer of a call, where `answers` are those of the endpoints that its arguments name, in order.
+fn called<S: Schema, L: Ledger>(
+    alloc: Global,
+    at: Endpoint,
+    kind: Kind,
+    label: Label,
+    args: &[ArgRule],
+    answers: &[Held],
+    steps: &mut Steps<L>,
+) -> Result<Answer, AllocError>
+    requires { length (named_by_args args.now) ≡ length answers.now }
+    ensures answer { (value : Endpoint → Answer) → answers.now ≡ map value (named_by_args args.now) →
+        IfOk result (λ a. a ≡ called_by S.tables at kind label value args.now) }
+    ensures steps { (value : Endpoint → Answer) → answers.now ≡ map value (named_by_args args.now) →
+        OnOk result (steps.new ≡ steps.old + productions_of_call S.tables kind value args.now) }
+    ensures most { (value : Endpoint → Answer) → answers.now ≡ map value (named_by_args args.now) →
+        steps.new ≤ steps.old + productions_of_call S.tables kind value args.now }
+{
+    if has_cycle(answers) {
+        return Ok(Answer::Cycle);
+    }
+    let values = arg_values::<S>(alloc, kind, args, answers)?;
+    produced::<S, L>(alloc, at, kind, label, &values, steps)
 }
 
 /// Whether a cycle can be reached.
@@ -98,7 +126,9 @@ pub fn produced<S: Schema, L: Ledger>(
     args: &[ArgVal],
     steps: &mut Steps<L>,
 ) -> Result<Answer, AllocError>
-    ensures { IfOk result (λ a. a ≡ produced S.tables at kind label args.now) }
+    ensures answer { IfOk result (λ a. a ≡ produced S.tables at kind label args.now) }
+    ensures steps { OnOk result (steps.new ≡ steps.old + one_without (faults_of_args args.now)) }
+    ensures most { steps.new ≤ steps.old + one_without (faults_of_args args.now) }
 {
     let faults = faults_of_args(alloc, args)?;
     if !faults.is_empty() {
@@ -115,7 +145,7 @@ pub fn answer_of(alloc: Global, at: Endpoint, made: Made) -> Result<Answer, Allo
     match made {
         Made::Good(value) => {
             if value.weight() <= MAX_WEIGHT {
-                Ok(Answer::Good(value))
+                Ok(Answer::good(value))
             } else {
                 one_fault(alloc, at, FaultCode::TooLong)
             }
@@ -132,8 +162,9 @@ pub fn arg_values<S: Schema>(
     args: &[ArgRule],
     answers: &[Held],
 ) -> Result<Vec<ArgVal>, AllocError>
-    requires { length (named_by_args args.now) ≤ length answers.now }
-    ensures { IfOk result (λ v. v.items ≡ args_from S.tables kind args.now answers.now) }
+    requires { length (named_by_args args.now) ≡ length answers.now }
+    ensures { (value : Endpoint → Answer) → answers.now ≡ map value (named_by_args args.now) →
+        IfOk result (λ v. v.items ≡ map (arg_value S.tables kind value) args.now) }
 {
     let mut all = Vec::with_capacity(alloc, args.len())?;
     let mut rest = answers;
@@ -163,13 +194,12 @@ pub fn arg_value<S: Schema>(
     arg: &ArgRule,
     answers: &[Held],
 ) -> Result<ArgVal, AllocError>
-    ensures { IfOk result (λ v. v ≡ arg_from S.tables kind arg.now answers.now) }
+    requires { length (named_by_arg arg.now) ≡ length answers.now }
+    ensures { (value : Endpoint → Answer) → answers.now ≡ map value (named_by_arg arg.now) →
+        IfOk result (λ v. v ≡ arg_value S.tables kind value arg.now) }
 {
     match arg {
-        ArgRule::Own(_) => match answers.first() {
-            Some(answer) => Ok(ArgVal::One(answer.share()?)),
-            None => Ok(ArgVal::Nil),
-        },
+        ArgRule::Own(_) => Ok(ArgVal::One(answers[0].share()?)),
         ArgRule::Input { input, .. } => input_value::<S>(alloc, kind, *input, answers),
         ArgRule::Open(props) => Ok(ArgVal::Open(copied(alloc, props.as_slice())?)),
     }

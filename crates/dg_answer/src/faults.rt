@@ -1,9 +1,9 @@
 //! The faults among arguments: in order, each once, and the first 64.
-ghost use Rattle.std.specs.Prelude.{◌≡◌, ◌++◌, IfOk, OnOk, take};
+ghost use Rattle.std.specs.Prelude.{◌≡◌, ◌++◌, IfOk, OnOk, flat_map, take};
 ghost use Rattle.std.specs.List.{list_any};
 ghost use Rattle.dg_base.specs.Same.{number_of_code, same_end, same_fault};
-ghost use Rattle.dg_base.specs.Value.{faults_of, faults_of_all, faults_of_arg, faults_of_args, distinct_faults, max_faults};
-ghost use Rattle.dg_answer.specs.Answering.{keep_one, keep_all};
+ghost use Rattle.dg_base.specs.Value.{faults_of, faults_of_arg, faults_of_args, distinct_faults, max_faults};
+ghost use Rattle.dg_answer.specs.Kept.{keep_one, keep_all};
 
 use dg_base::{Answer, ArgVal, Fault, FaultCode, Held};
 use std::alloc::{AllocError, Global};
@@ -36,7 +36,7 @@ fn keep_of_arg(kept: &mut Vec<Fault>, arg: &ArgVal) -> Result<(), AllocError>
 }
 
 fn keep_of_all(kept: &mut Vec<Fault>, answers: &[Held]) -> Result<(), AllocError>
-    ensures { OnOk result (kept.new.items ≡ keep_all kept.old.items (faults_of_all answers.now)) }
+    ensures { OnOk result (kept.new.items ≡ keep_all kept.old.items (flat_map faults_of answers.now)) }
 {
     for answer in answers {
         keep_of(kept, answer)?;

@@ -1,10 +1,2 @@
-pub mod PlaceLemmas
-pub mod PointLemmas
-pub mod OriginLemmas
-pub mod WayLemmas
-pub mod ChangeLemmas
-pub mod ClearLemmas
-pub mod SetLemmas
-pub mod ReaderLemmas
-pub mod RoundLemmas
-pub mod SettlingLemmas
+pub mod NodeSearch
+pub mod ChangedNodes

@@ -1,15 +1,17 @@
 //! Changes of a graph. Each asks that the graph which it gives is sound. Where memory is refused the
 //! graph isn't used further.
-ghost use Rattle.std.specs.Prelude.{◌≡◌, ◌<◌, length, map, find, slice_get, is_some, IsTrue, IfOk, OnOk, filter, not, ◌&&◌};
-ghost use Rattle.dg_base.specs.Apply.{is_arc, new_node, stays, with_node, with_value, without_value, with_mark, with_arc, without_arc, without_arcs_into, without_nodes};
+ghost use Rattle.std.specs.Prelude.{◌≡◌, ◌&&◌, filter, not, IsTrue, IfOk, OnOk};
+ghost use Rattle.dg_base.specs.Changes.{is_arc, new_node, stays, with_node, with_value, without_value, with_mark, with_arc, without_arc, without_arcs_into, without_nodes};
 ghost use Rattle.dg_base.specs.Graph.{has_node};
-ghost use Rattle.dg_base.specs.Order.{is_node_among, rises};
+ghost use Rattle.dg_base.specs.Order.{is_node_among};
 ghost use Rattle.dg_base.specs.Same.{same_node, same_label, same_arc};
 ghost use Rattle.dg_base.specs.Sound.{IsSound};
 
 use crate::Graph;
-use crate::fields::{clear, put};
+use crate::arcs::{is_one_of, is_same};
+use crate::nodes::place_in;
 use dg_base::{ArcRec, Datum, Fields, Label, Node, NodeId, Origin, Schema};
+use dg_fields::{clear, put};
 use std::alloc::AllocError;
 
 impl<S: Schema> Graph<S> {
@@ -80,7 +82,7 @@ impl<S: Schema> Graph<S> {
         ensures graph { OnOk result (self.new ≡ without_arc self.old arc) }
         ensures there { IfOk result (λ there. there ≡ is_arc self.old arc) }
     {
-        let there = self.has_arc(arc);
+        let there = is_one_of(&self.arcs, arc);
         keep_others(&mut self.arcs, arc);
         Ok(there)
     }
@@ -104,23 +106,6 @@ impl<S: Schema> Graph<S> {
         keep_arcs(&mut self.arcs, nodes);
         Ok(())
     }
-
-    /// Whether there is such an arc. In time linear in the arcs.
-    pub fn has_arc(&self, arc: ArcRec) -> bool
-        ensures { result ≡ is_arc self.now arc }
-    {
-        self.arcs.iter().any(|known| is_same(arc, *known))
-    }
-}
-
-// Where a node stands, among nodes whose ids rise.
-pub(crate) fn place_in(nodes: &[Node], node: NodeId) -> usize
-    requires rise { IsTrue (rises (map (λ x. x.id.0) nodes.now)) }
-    requires there { IsTrue (is_some (find (λ x. same_node x.id node) nodes.now)) }
-    ensures at { slice_get nodes.now result ≡ find (λ x. same_node x.id node) nodes.now }
-    ensures within { result < length nodes.now }
-{
-    nodes.partition_point(|known| known.id.0 < node.0)
 }
 
 fn keep_others(arcs: &mut Vec<ArcRec>, arc: ArcRec)
@@ -175,12 +160,4 @@ fn stays(gone: &[NodeId], arc: ArcRec) -> bool
     ensures { result ≡ stays gone.now arc }
 {
     is_left(gone, arc.src.node) && is_left(gone, arc.node)
-}
-
-fn is_same(a: ArcRec, b: ArcRec) -> bool
-    ensures { result ≡ same_arc a b }
-{
-    a.src.node.0 == b.src.node.0
-        && a.src.label.0 == b.src.label.0
-        && (a.node.0 == b.node.0 && a.input.0 == b.input.0)
 }

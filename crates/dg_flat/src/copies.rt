@@ -2,8 +2,8 @@
 ghost use Rattle.std.specs.Prelude.{◌≡◌, IfOk};
 
 use crate::Graph;
-use crate::fields::copied;
 use dg_base::{ArcRec, Node, Schema};
+use dg_fields::copied;
 use std::alloc::{AllocError, Global};
 use std::marker::PhantomData;
 

@@ -2,27 +2,17 @@
 //! faster form of the graph is measured against. Contracts see a graph as these lists, and it is
 //! sound at every moment.
 //!
-//! The reads: `graph` counts, origins and own values, `chain` kinds and heirs, `sources`, `rule` with
-//! `open` values, `ends` endpoints, `readers`, `dirty`, and `value`, plain evaluation. The changes:
-//! `changes` and `copies`. Want of memory is std's `AllocError`.
+//! `graph` has what is read of the lists themselves, with `nodes` and `arcs`; `reads` the reads of
+//! `dg_reads` that follow. The changes: `changes` and `copies`. Want of memory is std's `AllocError`.
 #![tactic(auto)]
 
-mod chain;
+mod arcs;
 mod changes;
 mod copies;
-mod dirty;
-mod ends;
-mod fields;
 mod graph;
-mod needs;
 mod nodes;
-mod open;
-mod readers;
-mod rule;
-mod sets;
-mod sources;
+mod reads;
 #[cfg(test)]
 mod tests;
-mod value;
 
 pub use graph::Graph;

@@ -2,7 +2,7 @@
 //! it gives is sound. Where memory is refused the graph isn't used further: the caller drops its share.
 //! Where the lists are shared, the first change copies them, in time linear in the graph.
 ghost use Rattle.std.specs.Prelude.{◌≡◌, IsTrue, IfOk, OnOk};
-ghost use Rattle.dg_base.specs.Apply.{is_arc, new_node, with_node, with_value, without_value, with_mark, with_arc, without_arc, without_arcs_into, without_nodes};
+ghost use Rattle.dg_base.specs.Changes.{is_arc, new_node, with_node, with_value, without_value, with_mark, with_arc, without_arc, without_arcs_into, without_nodes};
 ghost use Rattle.dg_base.specs.Graph.{has_node};
 ghost use Rattle.dg_base.specs.Sound.{IsSound};
 

@@ -34,13 +34,20 @@ impl<S: Schema> Graph<S> {
         Ok(Graph { lists })
     }
 
+    /// That the graph is sound, for proofs. It does nothing.
+    pub fn is_sound(&self)
+        ensures { IsSound S.tables self.now }
+    {
+        self.lists.is_sound();
+    }
+
     /// An equal graph, which shares all with this one. Neither changes through the other. In
     /// constant time.
     pub fn share(&self) -> Result<Graph<S>, AllocError>
         ensures graph { IfOk result (λ g. g ≡ self.now) }
         ensures sound { IsSound S.tables self.now }
     {
-        let _nodes = self.lists.node_count();
+        self.is_sound();
         let lists = Arc::try_clone(&self.lists)?;
         Ok(Graph { lists })
     }

@@ -1,13 +1,12 @@
 //! The reads of a graph.
 ghost use Rattle.std.specs.Prelude.{◌≡◌, length, IfOk};
 ghost use Rattle.std.specs.Option.{option_copied};
-ghost use Rattle.dg_base.specs.Apply.{is_arc};
+ghost use Rattle.dg_base.specs.Changes.{is_arc};
 ghost use Rattle.dg_base.specs.Chain.{heirs, kind_of};
 ghost use Rattle.dg_base.specs.Dirty.{dirty};
 ghost use Rattle.dg_base.specs.Graph.{origin_at, own_value, override_in, explicit_sources};
 ghost use Rattle.dg_base.specs.Owned.{overs};
 ghost use Rattle.dg_base.specs.Rule.{endpoints_at, ends_of, rule_of};
-ghost use Rattle.dg_base.specs.Sound.{IsSound};
 ghost use Rattle.dg_base.specs.Sources.{sources};
 ghost use Rattle.dg_base.specs.Value.{value_at};
 ghost use Rattle.dg_base.specs.Touched.{is_open_arg, outputs, outputs_reading, readers_of_input, readers_of_nodes};
@@ -20,8 +19,7 @@ use std::sync::ledger::Ledger;
 impl<S: Schema> Graph<S> {
     /// How many nodes there are.
     pub fn node_count(&self) -> usize
-        ensures count { result ≡ length self.now.nodes }
-        ensures sound { IsSound S.tables self.now }
+        ensures { result ≡ length self.now.nodes }
     {
         self.lists.node_count()
     }

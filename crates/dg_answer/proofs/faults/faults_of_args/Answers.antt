@@ -1,8 +1,8 @@
 use Rattle.std.proofs.Common.{◌∙◌, sym}
 use Rattle.std.proofs.lemmas.List.{at_drop_all}
 use Rattle.dg_base.specs.Value.{faults_of_args}
-use Rattle.dg_answer.specs.Answering.{keep_all}
-use Rattle.dg_answer.proofs.FaultLemmas.{keep_arg, keep_kept}
+use Rattle.dg_answer.specs.Kept.{keep_all}
+use Rattle.dg_answer.proofs.KeptFaults.{keep_arg, keep_kept}
 use Rattle.dg_answer.proofs.faults.faults_of_args.Goals as goal
 
 pub loop-arg-preserved : goal.loop-arg-preserved

@@ -1,5 +1,5 @@
 use Rattle.std.proofs.Common.{◌≡◌, drop}
-use Rattle.dg_answer.specs.Answering.{keep_all}
+use Rattle.dg_answer.specs.Kept.{keep_all}
 use Rattle.dg_answer.proofs.faults.keep_all.Given as goal
 
 abbrev pub invariant-loop-fault : goal.invariant-loop-fault

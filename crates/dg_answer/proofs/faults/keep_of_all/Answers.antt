@@ -1,5 +1,5 @@
 use Rattle.std.proofs.Common.{◌∙◌}
-use Rattle.dg_answer.proofs.FaultLemmas.{keep_answer}
+use Rattle.dg_answer.proofs.KeptFaults.{keep_answer}
 use Rattle.dg_answer.proofs.faults.keep_of_all.Goals as goal
 
 pub loop-answer-preserved : goal.loop-answer-preserved

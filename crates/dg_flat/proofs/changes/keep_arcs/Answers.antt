@@ -1,6 +1,6 @@
 use Rattle.std.proofs.Common.{rules}
 use Rattle.std.proofs.lemmas.Fn.{filter_same}
-use Rattle.dg_base.specs.Apply.{stays}
+use Rattle.dg_base.specs.Changes.{stays}
 use Rattle.dg_flat.proofs.changes.keep_arcs.Goals as goal
 
 pub returns : goal.returns

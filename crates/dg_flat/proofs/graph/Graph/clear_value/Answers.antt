@@ -4,8 +4,8 @@ use Rattle.dg_base.specs.declared.graph.Node.{Node}
 use Rattle.dg_base.specs.Same.{same_label}
 use Rattle.dg_base.specs.Graph.{Graph}
 use Rattle.dg_base.specs.Sound.{IsSound}
-use Rattle.dg_base.specs.Apply.{without_value}
-use Rattle.dg_flat.proofs.ChangeLemmas.{changed_at, stands, stands_same, own-rises}
+use Rattle.dg_base.specs.Changes.{without_value}
+use Rattle.dg_flat.proofs.ChangedNodes.{changed_at, stands, stands_same, own-rises}
 use Rattle.dg_flat.proofs.graph.Graph.clear_value.Goals as goal
 
 pub clear-requires : goal.clear-requires

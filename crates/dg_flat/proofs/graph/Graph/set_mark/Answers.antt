@@ -2,8 +2,8 @@ use Rattle.std.proofs.Common.{List, sym, ap, subst, ◌∙◌}
 use Rattle.dg_base.specs.declared.graph.Node.{Node}
 use Rattle.dg_base.specs.Graph.{Graph}
 use Rattle.dg_base.specs.Sound.{IsSound}
-use Rattle.dg_base.specs.Apply.{with_mark}
-use Rattle.dg_flat.proofs.ChangeLemmas.{changed_at, stands, stands_same}
+use Rattle.dg_base.specs.Changes.{with_mark}
+use Rattle.dg_flat.proofs.ChangedNodes.{changed_at, stands, stands_same}
 use Rattle.dg_flat.proofs.graph.Graph.set_mark.Goals as goal
 
 pub returns : goal.returns

@@ -3,8 +3,8 @@ use Rattle.dg_base.specs.declared.datum.FieldOf.{FieldOf}
 use Rattle.dg_base.specs.declared.graph.Node.{Node}
 use Rattle.dg_base.specs.Graph.{Graph, put_value}
 use Rattle.dg_base.specs.Sound.{IsSound}
-use Rattle.dg_base.specs.Apply.{with_value}
-use Rattle.dg_flat.proofs.ChangeLemmas.{changed_at, set_again, stands, stands_same}
+use Rattle.dg_base.specs.Changes.{with_value}
+use Rattle.dg_flat.proofs.ChangedNodes.{changed_at, set_again, stands, stands_same}
 use Rattle.dg_flat.proofs.graph.Graph.set_value.Goals as goal
 
 pub returns : goal.returns

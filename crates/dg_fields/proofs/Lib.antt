@@ -1,0 +1,2 @@
+pub mod PutValues
+pub mod ClearedValues

@@ -1,9 +1,0 @@
-use Rattle.std.proofs.Common.{◌≡◌}
-use Rattle.dg_base.specs.Chain.{chain, holds}
-use Rattle.dg_flat.proofs.chain.is_heir.Given as goal
-
-abbrev pub invariant-loop-origin : goal.invariant-loop-origin
-invariant-loop-origin g l = holds (chain l.graph l.at) l.node ≡ holds (chain l.graph l.initial.at) l.node
-
-abbrev pub decreases-loop-origin : goal.decreases-loop-origin
-decreases-loop-origin g l = l.at.0

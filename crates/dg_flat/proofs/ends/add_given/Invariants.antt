@@ -1,8 +1,0 @@
-use Rattle.std.proofs.Common.{◌≡◌, ◌++◌, drop, filter}
-use Rattle.dg_base.specs.Rule.{ends_of, is_given}
-use Rattle.dg_flat.proofs.ends.add_given.Given as goal
-
-abbrev pub invariant-loop-label : goal.invariant-loop-label
-invariant-loop-label g l =
-    l.ends.items ++ ends_of l.node (filter (λ i. is_given (g.S.Schema.tables.role l.kind i)) (drop l.label-index l.labels))
-    ≡ l.initial.ends.items ++ ends_of l.node (filter (λ i. is_given (g.S.Schema.tables.role l.kind i)) l.labels)

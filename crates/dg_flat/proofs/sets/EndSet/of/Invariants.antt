@@ -1,6 +1,0 @@
-use Rattle.std.proofs.Common.{◌≡◌, take}
-use Rattle.dg_base.specs.Order.{ordered}
-use Rattle.dg_flat.proofs.sets.EndSet.of.Given as goal
-
-abbrev pub invariant-loop-end : goal.invariant-loop-end
-invariant-loop-end l = l.all ≡ ordered (take l.end-index l.ends)

@@ -1,0 +1,9 @@
+pub mod Ids
+pub mod Origins
+pub mod Inheritance
+pub mod OpenFields
+pub mod AlongChains
+pub mod PutInOrder
+pub mod ReadersOfNodes
+pub mod DirtyRounds
+pub mod AnswerTable

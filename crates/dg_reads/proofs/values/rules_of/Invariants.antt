@@ -1,0 +1,6 @@
+use Rattle.std.proofs.Common.{◌≡◌, ◌++◌, drop, map}
+use Rattle.dg_reads.specs.AnswerTable.{endpoint_rule}
+use Rattle.dg_reads.proofs.values.rules_of.Given as goal
+
+abbrev pub invariant-loop-end : goal.invariant-loop-end
+invariant-loop-end g l = l.all.items ++ map (endpoint_rule g.S.Schema.tables (g.G.CoreReads.graph l.graph)) (drop l.end-index l.ends) ≡ map (endpoint_rule g.S.Schema.tables (g.G.CoreReads.graph l.graph)) l.ends
