@@ -1,6 +1,6 @@
-pub mod WalkLemmas
-pub mod SetLemmas
-pub mod OverLemmas
-pub mod MetLemmas
-pub mod HeirLemmas
-pub mod Made
+-- In reading order: each module uses only the ones before it.
+pub mod FirstMet
+pub mod WalkRounds
+pub mod Refusals
+pub mod OverrideRounds
+pub mod HeirRounds

@@ -1,22 +1,23 @@
 //! What belongs together: the cascade tree of a node, what goes when a node is deleted, and the
 //! override nodes that are made when something is connected below an original.
 //!
-//! The layer above may use all that is public here. A walk keeps the nodes that it has to visit on a
-//! stack of its own and those that it met in a hash set in the order of insertion, so it is linear
-//! in what it meets and the reads of the graph. Want of memory is std's `AllocError`, or
-//! `OverRefusal::NoMemory` where a limit can refuse too.
+//! In reading order: `met` nodes in the order in which they were first met, `ordered` nodes in id order,
+//! `owned` what a node owns, `walk` its cascade tree and what is deleted with it, `lacking` which nodes
+//! have no override node yet, `overriding` override nodes for a list of nodes, and `populating` those for
+//! what is connected. A walk keeps the nodes that it has to visit on a stack of its own and those that it
+//! met in a hash set in the order of insertion, so it is linear in what it meets and the reads of the
+//! graph. Want of memory is std's `AllocError`, or `Refusal::NoMemory` where the limit of nodes can refuse
+//! too.
 #![tactic(auto)]
 
-mod heirs;
+mod lacking;
 mod met;
-mod missing;
 mod ordered;
-mod over;
+mod overriding;
 mod owned;
-mod refusal;
+mod populating;
 mod walk;
 
-pub use heirs::populate;
-pub use over::{MAX_NODES, override_all};
-pub use refusal::OverRefusal;
+pub use overriding::{MAX_NODES, override_all};
+pub use populating::populate;
 pub use walk::{cascade_tree, doomed};

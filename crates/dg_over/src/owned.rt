@@ -1,13 +1,13 @@
 //! What a node owns.
-ghost use Rattle.std.specs.Prelude.{◌≡◌, ◌++◌, IfOk, OnOk, map, filter_map, flat_map, filter};
+ghost use Rattle.std.specs.Prelude.{◌≡◌, ◌++◌, Some, IfOk, OnOk, map, filter_map, flat_map};
 ghost use Rattle.dg_base.specs.Graph.{override_in};
-ghost use Rattle.dg_base.specs.Owned.{is_cascade, owned, owned_through, owned_by_origin};
+ghost use Rattle.dg_base.specs.Owned.{cascading_inputs, owned, owned_through, owned_by_origin};
 
-use dg_base::{Endpoint, Kind, Label, NodeId, Origin, Role, Schema};
+use dg_base::{Endpoint, Kind, Label, NodeId, Origin, Schema};
 use dg_view::Graph;
 use std::alloc::{AllocError, Global};
 
-// What the cascading inputs of a node hold, in label order.
+/// What the cascading inputs of a node hold, in label order.
 pub(crate) fn owned<S: Schema>(
     alloc: Global,
     graph: &Graph<S>,
@@ -29,24 +29,15 @@ fn add_owned<S: Schema>(
     kind: Kind,
     node: NodeId,
 ) -> Result<(), AllocError>
-    ensures { OnOk result (all.new.items ≡ all.old.items ++ flat_map (owned_through graph.now node) (filter (λ l. is_cascade (S.tables.role kind l)) (S.tables.labels kind))) }
+    ensures { OnOk result (all.new.items ≡ all.old.items ++ flat_map (owned_through graph.now node) (cascading_inputs S.tables (Some kind))) }
 {
     let labels = S::labels(kind);
     for label in labels {
-        if is_cascade(S::role(kind, *label)) {
+        if S::role(kind, *label).cascades() {
             all.append(&mut owned_through(alloc, graph, node, *label)?)?;
         }
     }
     Ok(())
-}
-
-fn is_cascade(role: Role) -> bool
-    ensures { result ≡ is_cascade role }
-{
-    match role {
-        Role::Input { cascade, .. } => cascade,
-        _ => false,
-    }
 }
 
 // The nodes of the explicit sources, or else what the node owns as an override node.

@@ -1,8 +1,8 @@
 //! Walks over the nodes that belong to a node: its cascade tree, and what goes with it.
-ghost use Rattle.std.specs.Prelude.{◌≡◌, [], length, IfOk, IsTrue};
-ghost use Rattle.dg_base.specs.Graph.{has_node};
-ghost use Rattle.dg_base.specs.Owned.{cascade_tree, doomed};
+ghost use Rattle.std.specs.Prelude.{◌≡◌, [], IfOk};
+ghost use Rattle.dg_base.specs.Same.{same_node};
 ghost use Rattle.dg_base.specs.Walk.{walk_within};
+ghost use Rattle.dg_base.specs.Owned.{enough_levels, cascade_tree, doomed};
 ghost use Rattle.dg_over.specs.Follow.{followed};
 
 use crate::met::Met;
@@ -20,13 +20,12 @@ pub(crate) enum Follow {
 }
 
 /// The cascade tree of a node: the node, then what its members own, each once, in the order of a
-/// depth-first walk.
+/// depth-first walk. Of a node that isn't there it is that node alone.
 pub fn cascade_tree<S: Schema>(
     alloc: Global,
     graph: &Graph<S>,
     node: NodeId,
 ) -> Result<Vec<NodeId>, AllocError>
-    requires { IsTrue (has_node graph.now node) }
     ensures { IfOk result (λ v. v.items ≡ cascade_tree S.tables graph.now node) }
 {
     let met = walk(alloc, graph, Follow::Owned, node)?;
@@ -34,19 +33,16 @@ pub fn cascade_tree<S: Schema>(
 }
 
 /// What goes when a node is deleted, in id order: the least set with the node, the override nodes of
-/// its members, and what these own.
+/// its members, and what these own. Of a node that isn't there it is that node alone.
 pub fn doomed<S: Schema>(
     alloc: Global,
     graph: &Graph<S>,
     node: NodeId,
 ) -> Result<Vec<NodeId>, AllocError>
-    requires { IsTrue (has_node graph.now node) }
     ensures { IfOk result (λ v. v.items ≡ doomed S.tables graph.now node) }
 {
-    let _nodes = graph.node_count();
     let met = walk(alloc, graph, Follow::Taken, node)?;
-    let all = in_order(alloc, met.as_slice())?;
-    Ok(all)
+    Ok(in_order(Vec::from_slice(alloc, met.as_slice())?))
 }
 
 fn walk<S: Schema>(
@@ -55,10 +51,9 @@ fn walk<S: Schema>(
     follow: Follow,
     node: NodeId,
 ) -> Result<Met, AllocError>
-    requires { IsTrue (has_node graph.now node) }
-    ensures { IfOk result (λ m. m ≡ walk_within (length graph.now.nodes) (followed S.tables graph.now follow) [] node) }
+    ensures { IfOk result (λ m. m ≡ walk_within same_node (enough_levels graph.now) (followed S.tables graph.now follow) [] node) }
 {
-    let _nodes = graph.node_count();
+    graph.is_sound();
     let mut met = Met::new(alloc);
     let mut stack = Vec::new(alloc);
     stack.push(node)?;

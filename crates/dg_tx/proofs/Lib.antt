@@ -1,7 +1,7 @@
-pub mod IdLemmas
-pub mod MadeLemmas
-pub mod ReaderLemmas
-pub mod NamedLemmas
-pub mod OutcomeLemmas
-pub mod ConnectLemmas
-pub mod StepLemmas
+-- In reading order: each module uses only the ones before it.
+pub mod IdRows
+pub mod NewIds
+pub mod UnreadNodes
+pub mod NamedNodes
+pub mod ConnectedArcs
+pub mod AppliedSteps

@@ -1,150 +1,127 @@
 //! Steps that connect and disconnect.
-ghost use Rattle.std.specs.Prelude.{◌≡◌, ◌++◌, ◌<◌, length, IsTrue, OnOk};
-ghost use Rattle.dg_base.specs.declared.ids.ArcRec.{ArcRec};
-ghost use Rattle.dg_base.specs.declared.schema.Role.{Role};
-ghost use Rattle.dg_base.specs.Apply.{Progress, arc_step, changed_to, connect_step, connected, disconnect_step, freed, populate, typed_arc, with_arc};
-ghost use Rattle.dg_base.specs.Sound.{IsSound, agree, max_arcs};
+ghost use Rattle.std.specs.Prelude.{◌≡◌, ◌++◌, ◌<◌, false, Some, length, IsTrue, OnOk};
+ghost use Rattle.dg_base.specs.Role.{taken};
+ghost use Rattle.dg_base.specs.Graph.{has_node};
+ghost use Rattle.dg_base.specs.Sound.{IsSound, agree, max_arcs, role_at};
+ghost use Rattle.dg_base.specs.Refusal.{Gives};
+ghost use Rattle.dg_base.specs.Changes.{is_arc, with_arc};
+ghost use Rattle.dg_base.specs.Progress.{IsReady};
+ghost use Rattle.dg_base.specs.Steps.{connect_nodes, connected, disconnect_arc, freed, populated, typed_arc};
 ghost use Rattle.dg_base.specs.Touched.{nodes_from, touched_nodes, touched_readers};
-ghost use Rattle.dg_base.proofs.SoundSteps.{IsReady};
-ghost use Rattle.dg_tx.specs.Outcome.{progress, Gives, IsFound, Tests};
+ghost use Rattle.dg_tx.specs.Outcome.{progress, Changes};
 
 use crate::limits::MAX_ARCS;
-use crate::refusal::{StepRefusal, of_over};
-use crate::roles::{cascades, given_type, is_array, role_at, taken_type};
+use crate::roles::role_at;
 use crate::touched::{touch_readers, touch_row};
 use crate::work::Work;
-use dg_base::{ArcRec, Endpoint, Label, NodeId, Role, Schema, TxCode, Ty};
+use dg_base::{ArcRec, Refusal, Role, Schema, TxCode, Ty};
 use dg_over::populate;
 use dg_view::Graph;
 use std::alloc::{AllocError, Global};
 
-/// Connects a property or output to an input.
+/// Connects a property or output to an input. A new arc into an input that owns its sources populates.
 pub(crate) fn connect<S: Schema>(
     alloc: Global,
     work: &mut Work<S>,
-    src: Option<NodeId>,
-    label: Label,
-    target: Option<NodeId>,
-    input: Label,
-) -> Result<(), StepRefusal>
+    arc: ArcRec,
+) -> Result<(), Refusal<TxCode>>
     requires ready { IsReady S.tables (progress work.old) }
-    requires src_found { IsFound work.old.graph src }
-    requires target_found { IsFound work.old.graph target }
-    ensures graph { Gives result (connect_step S.tables (progress work.old) src label target input) (progress work.new) }
-    ensures touched { OnOk result (work.new.touched.items ≡ work.old.touched.items ++ touched_readers S.tables work.old.graph target input ++ touched_nodes S.tables work.new.graph (nodes_from work.old.next work.new.graph)) }
+    requires src_there { IsTrue (has_node work.old.graph arc.src.node) }
+    requires there { IsTrue (has_node work.old.graph arc.node) }
+    ensures graph { Gives (λ _. progress work.new) result (connect_nodes S.tables (progress work.old) arc) }
+    ensures touched { OnOk result (work.new.touched.items ≡ work.old.touched.items ++ touched_readers S.tables work.old.graph (Some arc.node) arc.input ++ touched_nodes S.tables work.new.graph (nodes_from work.old.next work.new.graph)) }
 {
-    let Some(from) = src else {
-        return Err(StepRefusal::Refused(TxCode::NoNode));
-    };
-    let Some(node) = target else {
-        return Err(StepRefusal::Refused(TxCode::NoNode));
-    };
-    let src = Endpoint { node: from, label };
-    let arc = ArcRec { src, node, input };
-    let role = role_at(&work.graph, node, input);
-    may_connect(
-        given_type(role_at(&work.graph, from, label)),
-        taken_type(role),
-    )?;
-    touch_readers(&mut work.touched, &work.graph, node, input)?;
-    if work.graph.has_arc(arc) {
-        return Ok(());
-    }
-    put_arc(&mut work.graph, arc, role)?;
-    if cascades(role) {
-        populate_heirs(alloc, work, node, input)?;
-    }
-    Ok(())
+    let given = role_at(&work.graph, arc.src.node, arc.src.label).given();
+    let input = role_at(&work.graph, arc.node, arc.input);
+    let populates = input.cascades() && !work.graph.has_arc(arc);
+    touch_readers(&mut work.touched, &work.graph, arc.node, arc.input)?;
+    put_typed(&mut work.graph, arc, input, given)?;
+    populate_if(alloc, work, arc, populates)
 }
 
-fn may_connect(given: Option<Ty>, taken: Option<Ty>) -> Result<(), TxCode>
-    ensures arc { (p : Progress) (a : ArcRec) (input : Role) → Tests result (typed_arc p a input given taken) (arc_step p a input) }
-    ensures agree { OnOk result (IsTrue (agree given taken)) }
+// Adds an arc whose source is of a type, and whose input is of this role, where they fit.
+fn put_typed<S: Schema>(
+    graph: &mut Graph<S>,
+    arc: ArcRec,
+    input: Role,
+    given: Option<Ty>,
+) -> Result<(), Refusal<TxCode>>
+    requires sound { IsSound S.tables graph.old }
+    requires fits { IsTrue (agree given (taken input)) → is_arc graph.old arc ≡ false → length (freed input graph.old arc).arcs < max_arcs → IsSound S.tables (with_arc (freed input graph.old arc) arc) }
+    ensures { Changes (λ p. typed_arc p arc input given (taken input)) graph.old graph.new result }
 {
     let Some(given) = given else {
-        return Err(TxCode::NotOutput);
+        return Err(Refusal::Because(TxCode::NotOutput));
     };
-    let Some(taken) = taken else {
-        return Err(TxCode::NotInput);
+    let Some(taken) = input.taken() else {
+        return Err(Refusal::Because(TxCode::NotInput));
     };
-    if given == taken {
-        Ok(())
-    } else {
-        Err(TxCode::ArcType)
+    if given != taken {
+        return Err(Refusal::Because(TxCode::ArcType));
     }
+    if graph.has_arc(arc) {
+        return Ok(());
+    }
+    put_new(graph, arc, input)
 }
 
 // Adds an arc that isn't there. Into an input that takes one source it replaces the arc that is there.
-fn put_arc<S: Schema>(graph: &mut Graph<S>, arc: ArcRec, role: Role) -> Result<(), StepRefusal>
+fn put_new<S: Schema>(graph: &mut Graph<S>, arc: ArcRec, input: Role) -> Result<(), Refusal<TxCode>>
     requires sound { IsSound S.tables graph.old }
-    requires fits { length (freed role graph.old arc).arcs < max_arcs → IsSound S.tables (with_arc (freed role graph.old arc) arc) }
-    ensures { (p : Progress) → Gives result (connected p arc (freed role graph.old arc)) (changed_to p graph.new) }
+    requires fits { length (freed input graph.old arc).arcs < max_arcs → IsSound S.tables (with_arc (freed input graph.old arc) arc) }
+    ensures { Changes (λ p. connected p arc (freed input p.graph arc)) graph.old graph.new result }
 {
-    free(graph, arc, role)?;
+    free(graph, arc, input)?;
     if graph.arc_count() >= MAX_ARCS {
-        return Err(StepRefusal::Refused(TxCode::TooManyArcs));
+        return Err(Refusal::Because(TxCode::TooManyArcs));
     }
     graph.add_arc(arc)?;
     Ok(())
 }
 
-fn free<S: Schema>(graph: &mut Graph<S>, arc: ArcRec, role: Role) -> Result<(), AllocError>
+fn free<S: Schema>(graph: &mut Graph<S>, arc: ArcRec, input: Role) -> Result<(), AllocError>
     requires { IsSound S.tables graph.old }
-    ensures { OnOk result (graph.new ≡ freed role graph.old arc) }
+    ensures { OnOk result (graph.new ≡ freed input graph.old arc) }
 {
-    if is_array(role) {
+    if input.is_array() {
         Ok(())
     } else {
         graph.remove_arcs_into(arc.node, arc.input)
     }
 }
 
-fn populate_heirs<S: Schema>(
+fn populate_if<S: Schema>(
     alloc: Global,
     work: &mut Work<S>,
-    node: NodeId,
-    input: Label,
-) -> Result<(), StepRefusal>
+    arc: ArcRec,
+    populates: bool,
+) -> Result<(), Refusal<TxCode>>
     requires { IsReady S.tables (progress work.old) }
-    ensures graph { Gives result (populate S.tables (progress work.old) node input) (progress work.new) }
+    ensures graph { Gives (λ _. progress work.new) result (populated S.tables arc populates (progress work.old)) }
     ensures touched { OnOk result (work.new.touched.items ≡ work.old.touched.items ++ touched_nodes S.tables work.new.graph (nodes_from work.old.next work.new.graph)) }
 {
-    let first = work.next;
-    match populate(alloc, &mut work.graph, node, input, first) {
-        Ok(next) => work.next = next,
-        Err(refusal) => return Err(of_over(refusal)),
+    if !populates {
+        return Ok(());
     }
+    let first = work.next;
+    work.next = populate(alloc, &mut work.graph, arc.node, arc.input, first)?;
     touch_row(alloc, &mut work.touched, &work.graph, first, work.next)?;
     Ok(())
 }
 
 /// Removes an explicit arc.
-pub(crate) fn disconnect<S: Schema>(
-    work: &mut Work<S>,
-    src: Option<NodeId>,
-    label: Label,
-    target: Option<NodeId>,
-    input: Label,
-) -> Result<(), StepRefusal>
+pub(crate) fn disconnect<S: Schema>(work: &mut Work<S>, arc: ArcRec) -> Result<(), Refusal<TxCode>>
     requires ready { IsReady S.tables (progress work.old) }
-    ensures graph { Gives result (disconnect_step S.tables (progress work.old) src label target input) (progress work.new) }
-    ensures touched { OnOk result (work.new.touched.items ≡ work.old.touched.items ++ touched_readers S.tables work.old.graph target input) }
+    ensures graph { Gives (λ _. progress work.new) result (disconnect_arc (progress work.old) arc (taken (role_at S.tables work.old.graph arc.node arc.input))) }
+    ensures touched { OnOk result (work.new.touched.items ≡ work.old.touched.items ++ touched_readers S.tables work.old.graph (Some arc.node) arc.input) }
 {
-    let Some(from) = src else {
-        return Err(StepRefusal::Refused(TxCode::NoNode));
-    };
-    let Some(node) = target else {
-        return Err(StepRefusal::Refused(TxCode::NoNode));
-    };
-    if taken_type(role_at(&work.graph, node, input)).is_none() {
-        return Err(StepRefusal::Refused(TxCode::NotInput));
+    if role_at(&work.graph, arc.node, arc.input).taken().is_none() {
+        return Err(Refusal::Because(TxCode::NotInput));
     }
-    let src = Endpoint { node: from, label };
-    let arc = ArcRec { src, node, input };
     if !work.graph.has_arc(arc) {
-        return Err(StepRefusal::Refused(TxCode::NoArc));
+        return Err(Refusal::Because(TxCode::NoArc));
     }
-    touch_readers(&mut work.touched, &work.graph, node, input)?;
+    touch_readers(&mut work.touched, &work.graph, arc.node, arc.input)?;
     work.graph.remove_arc(arc)?;
     Ok(())
 }

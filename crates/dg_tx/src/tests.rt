@@ -1,8 +1,8 @@
 ghost use Rattle.std.specs.Prelude.{◌≤◌, IsTrue};
 ghost use Rattle.dg_base.specs.Sound.{ids_below};
 
-use crate::{TxRefusal, apply};
-use dg_base::{Datum, Endpoint, Kind, Label, NodeId, NodeRef, Step, Str, TxCode};
+use crate::apply;
+use dg_base::{Datum, Endpoint, Kind, Label, NodeId, NodeRef, Refusal, Rule, Step, Str, TxCode};
 use dg_kinds_go::GoKinds;
 use dg_view::Graph;
 use sqlite_items::Boxed;
@@ -71,13 +71,14 @@ static REFUSED: [(&'static [Move], u32, TxCode); 13] = [
 ];
 
 /// A game object, an override of it and an override of that. Then a component is connected to it,
-/// which gets override nodes in both.
-static POPULATES: [Move; 5] = [
+/// which gets override nodes in both, and has a type.
+static POPULATES: [Move; 6] = [
     Make(7),
     Override(New(0)),
     Override(New(1)),
     Make(9),
     Connect(New(3), 16, New(0), 17),
+    Word(New(3), 12),
 ];
 
 /// All endpoints of the three game objects and of the three components.
@@ -141,6 +142,19 @@ static TOUCH: [(&'static [Move], &'static [(u32, u64)]); 4] = [
             (6, 16),
         ],
     ),
+];
+
+/// Steps on that graph, one transaction of each sort, and how many rules they change.
+static CHANGE: [(&'static [Move], usize); 9] = [
+    (&[Make(1)], 1),
+    (&[Override(Id(4))], 6),
+    (&[Word(Id(4), 11)], 1),
+    (&[Word(In(2, 4), 11)], 1),
+    (&[Clear(Id(4), 12)], 1),
+    (&[Mark(Id(1))], 6),
+    (&[Disconnect(Id(4), 16, Id(1), 17)], 3),
+    (&[Make(9), Connect(New(0), 16, Id(1), 17)], 21),
+    (&[Delete(Id(5))], 14),
 ];
 
 fn reference(alloc: Global, name: Name) -> Result<NodeRef, AllocError> {
@@ -218,8 +232,8 @@ fn is_refused(
     let steps = steps(alloc, moves)?;
     match apply(alloc, &graph, next, &steps) {
         Ok(_) => Ok(false),
-        Err(TxRefusal::Refused { step, code }) => Ok(step == number && code == want),
-        Err(TxRefusal::NoMemory) => Err(AllocError),
+        Err(Refusal::Because(refused)) => Ok(refused.step == number && refused.code == want),
+        Err(Refusal::NoMemory) => Err(AllocError),
     }
 }
 
@@ -252,9 +266,65 @@ fn touches(
 {
     let steps = steps(alloc, moves)?;
     match apply(alloc, graph, next, &steps) {
-        Ok(applied) => Ok(applied.next == next && are(&applied.touched, want)),
-        Err(TxRefusal::Refused { .. }) => Ok(false),
-        Err(TxRefusal::NoMemory) => Err(AllocError),
+        Ok(applied) => Ok(applied.next == next && are(applied.touched.as_slice(), want)),
+        Err(Refusal::Because(_)) => Ok(false),
+        Err(Refusal::NoMemory) => Err(AllocError),
+    }
+}
+
+fn is_same(alloc: Global, rule: Rule, other: Rule) -> Result<bool, AllocError> {
+    let (rule, other) = (
+        format!(in alloc; "{rule:?}")?,
+        format!(in alloc; "{other:?}")?,
+    );
+    Ok(rule == other)
+}
+
+// How many rules differ in two graphs of at most nine nodes; None where one of them isn't touched.
+fn changed_rules(
+    alloc: Global,
+    before: &Graph<GoKinds>,
+    after: &Graph<GoKinds>,
+    touched: &[Endpoint],
+) -> Result<Option<usize>, AllocError> {
+    let mut count = 0;
+    for node in 1..10 {
+        for label in 1..34 {
+            let at = Endpoint {
+                node: NodeId(node),
+                label: Label(label),
+            };
+            if is_same(alloc, before.rule(at)?, after.rule(at)?)? {
+                continue;
+            }
+            if !touched.contains(&at) {
+                return Ok(None);
+            }
+            count += 1;
+        }
+    }
+    Ok(Some(count))
+}
+
+// Whether the moves change this many rules, each of a touched endpoint.
+fn changes(
+    alloc: Global,
+    graph: &Graph<GoKinds>,
+    next: u32,
+    moves: &[Move],
+    want: usize,
+) -> Result<bool, AllocError>
+    requires some { 1 ≤ next }
+    requires below { IsTrue (ids_below graph.now next) }
+{
+    let steps = steps(alloc, moves)?;
+    match apply(alloc, graph, next, &steps) {
+        Ok(done) => {
+            let changed = changed_rules(alloc, graph, &done.graph, done.touched.as_slice())?;
+            Ok(changed == Some(want))
+        }
+        Err(Refusal::Because(_)) => Ok(false),
+        Err(Refusal::NoMemory) => Err(AllocError),
     }
 }
 
@@ -265,18 +335,23 @@ fn wrongly_applied(alloc: Global) -> Result<Option<&'static str>, AllocError> {
     let Ok(applied) = apply(alloc, &empty, 1, &steps) else {
         return Ok(Some("refused"));
     };
-    if applied.next != 7 || applied.made.len() != 4 || empty.node_count() != 0 {
+    if applied.next != 7 || applied.made.as_slice().len() != 4 || empty.node_count() != 0 {
         return Ok(Some("made"));
     }
     if applied.graph.override_in(NodeId(3), NodeId(5)) != Some(NodeId(6)) {
         return Ok(Some("populated"));
     }
-    if !are(&applied.touched, &ALL) {
+    if !are(applied.touched.as_slice(), &ALL) {
         return Ok(Some("touched"));
     }
     for (moves, want) in &TOUCH {
         if !touches(alloc, &applied.graph, applied.next, moves, want)? {
             return Ok(Some("touched later"));
+        }
+    }
+    for (moves, want) in &CHANGE {
+        if !changes(alloc, &applied.graph, applied.next, moves, *want)? {
+            return Ok(Some("changed rules"));
         }
     }
     Ok(None)

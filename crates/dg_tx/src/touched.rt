@@ -1,7 +1,7 @@
 //! The endpoints that a step touches. Each call adds them behind those that are there.
 ghost use Rattle.std.specs.Prelude.{◌≡◌, ◌++◌, ◌≤◌, Some, flat_map, IfOk, OnOk};
-ghost use Rattle.dg_base.specs.Chain.{kind_of};
 ghost use Rattle.dg_base.specs.Order.{ordered};
+ghost use Rattle.dg_base.specs.Chain.{kind_of};
 ghost use Rattle.dg_base.specs.Rule.{endpoints_at, ends_of};
 ghost use Rattle.dg_base.specs.Touched.{outputs, readers_of_input, touched_nodes, touched_outputs, touched_readers, touched_value, touched_values};
 ghost use Rattle.dg_tx.specs.Ids.{ids_between};
@@ -47,7 +47,7 @@ fn touch_value<S: Schema>(
     ensures { OnOk result (touched.new.items ≡ touched.old.items ++ touched_value S.tables graph.now label node) }
 {
     touched.push(Endpoint { node, label })?;
-    if label.0 >= 1024 {
+    if label.is_open() {
         touched.append(&mut graph.open_readers(node)?)?;
     }
     Ok(())

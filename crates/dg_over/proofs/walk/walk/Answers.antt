@@ -1,8 +1,9 @@
-use Rattle.std.proofs.Common.{false, ◌≡◌, ◌∙◌, ◌∷◌, [], ◌++◌, List, cond, ap, reverse, length}
+use Rattle.std.proofs.Common.{false, ◌≡◌, ◌∙◌, ◌∷◌, [], ◌++◌, List, cond, ap, reverse}
 use Rattle.dg_base.specs.declared.ids.NodeId.{NodeId}
 use Rattle.dg_base.specs.Order.{is_node_among}
+use Rattle.dg_base.specs.Owned.{enough_levels}
 use Rattle.dg_over.specs.Follow.{followed}
-use Rattle.dg_over.proofs.WalkLemmas.{there_first, so_far_first, new_one, Round, there_next, so_far_next, work_next}
+use Rattle.dg_over.proofs.WalkRounds.{there_first, so_far_first, new_one, Round, there_next, so_far_next, work_next}
 use Rattle.dg_over.proofs.walk.walk.Given.{Over as over}
 use Rattle.dg_over.proofs.walk.walk.Goals as goal
 
@@ -10,14 +11,15 @@ pub loop-at-init : goal.loop-at-init
 loop-at-init g c =
     let stack : c.push.new.self.items ≡ c.args.node ∷ [] = c.in_ok-push.ensures.items ∙ ap (λ (z : List NodeId). z ++ c.args.node ∷ []) c.new-stack.ensures.items in
     record {
-      there = there_first c.args.graph.now c.args.node c.push.new.self.items stack c.requires;
-      so_far = so_far_first (followed g.S.Schema.tables c.args.graph.now c.args.follow) (length c.args.graph.now.nodes) c.args.node c.new-met.result c.push.new.self.items c.new-met.ensures stack;
+      there = there_first c.args.graph.now c.args.node c.push.new.self.items stack;
+      so_far = so_far_first (followed g.S.Schema.tables c.args.graph.now c.args.follow) (enough_levels c.args.graph.now) c.args.node c.new-met.result c.push.new.self.items c.new-met.ensures stack;
     }
 
 -- a round at a node that wasn't met
-round : (g : over) (c : goal.After-drop-next-then-branch g) → Round g.S.Schema.tables c.args.graph.now c.args.follow c.in-Some.at c.loop-at.met c.loop-at.stack.items c.pop.new.self.items c.put.new.self c.append.new.self.items
+round : (g : over) (c : goal.After-drop-next-then-branch g) →
+    Round g.S.Schema.tables c.args.graph.now c.args.follow c.args.node c.in-Some.at c.loop-at.met c.loop-at.stack.items c.pop.new.self.items c.put.new.self c.append.new.self.items
 round g c = record {
-  sound = c.node_count-nodes.ensures.sound;
+  sound = c.is_sound.ensures;
   there = c.loop-at.invariant.there;
   popped = c.in-Some.ensures.items;
   new = new;

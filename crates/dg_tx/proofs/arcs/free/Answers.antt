@@ -1,4 +1,4 @@
-use Rattle.dg_base.proofs.SoundArcs.{without_arcs_into-sound}
+use Rattle.dg_laws.proofs.SoundArcs.{without_arcs_into-sound}
 use Rattle.dg_tx.proofs.arcs.free.Goals as goal
 
 pub remove_arcs_into-requires : goal.remove_arcs_into-requires

@@ -3,8 +3,8 @@ use Rattle.dg_base.specs.declared.ids.Endpoint.{Endpoint}
 use Rattle.dg_base.specs.Graph.{Graph}
 use Rattle.dg_base.specs.Rule.{endpoints_at}
 use Rattle.dg_base.specs.Touched.{nodes_from, touched_nodes}
-use Rattle.dg_base.proofs.SoundNodes.{with_plain-sound}
-use Rattle.dg_tx.proofs.ReaderLemmas.{touched_new}
+use Rattle.dg_laws.proofs.SoundNodes.{with_plain-sound}
+use Rattle.dg_tx.proofs.UnreadNodes.{touched_new}
 use Rattle.dg_tx.proofs.nodes.make.Goals as goal
 
 pub put_node-requires : goal.put_node-requires

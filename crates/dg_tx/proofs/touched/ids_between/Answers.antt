@@ -1,7 +1,7 @@
 use Rattle.std.proofs.Common.{◌+◌, ◌++◌, List, [], ◌∷◌, sym, ap, ◌∙◌, append_assoc}
 use Rattle.dg_base.specs.declared.ids.NodeId.{NodeId}
 use Rattle.dg_tx.specs.Ids.{ids_between}
-use Rattle.dg_tx.proofs.IdLemmas.{ids_between-more}
+use Rattle.dg_tx.proofs.IdRows.{ids_between-more}
 use Rattle.dg_tx.proofs.touched.ids_between.Goals as goal
 
 pub loop-id-preserved : goal.loop-id-preserved

@@ -1,8 +1,8 @@
 use Rattle.std.proofs.Common.{◌++◌, List, sym, ap, ◌∙◌, append-nil}
 use Rattle.dg_base.specs.declared.ids.Endpoint.{Endpoint}
 use Rattle.dg_base.specs.Touched.{touched_nodes}
-use Rattle.dg_tx.proofs.IdLemmas.{ids_between-none}
-use Rattle.dg_tx.proofs.ReaderLemmas.{touched_nodes-none}
+use Rattle.dg_tx.proofs.IdRows.{ids_between-none}
+use Rattle.dg_tx.proofs.UnreadNodes.{touched_nodes-none}
 use Rattle.dg_tx.proofs.touched.touch_row.Goals as goal
 
 pub returns-then-first-end : goal.returns-then-first-end

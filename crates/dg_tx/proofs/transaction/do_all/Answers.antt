@@ -1,11 +1,11 @@
 use Rattle.std.proofs.Common.{◌≡◌, ℕ, suc, ◌+◌, List, ◌∷◌, sym, ap, ◌∙◌, drop, add-one, drop-cons}
 use Rattle.dg_base.specs.declared.ids.Endpoint.{Endpoint}
 use Rattle.dg_base.specs.declared.step.Step.{Step}
-use Rattle.dg_base.specs.Apply.{Progress}
-use Rattle.dg_base.specs.Touched.{applied_from}
-use Rattle.dg_base.proofs.SoundApplied.{step_of-after}
+use Rattle.dg_base.specs.Progress.{Progress}
+use Rattle.dg_base.specs.Transact.{applied_from}
+use Rattle.dg_laws.proofs.SoundApplied.{step_of-after}
 use Rattle.dg_tx.specs.Outcome.{progress}
-use Rattle.dg_tx.proofs.StepLemmas.{applied-done}
+use Rattle.dg_tx.proofs.AppliedSteps.{step_done}
 use Rattle.dg_tx.proofs.transaction.do_all.Goals as goal
 
 pub loop-step-preserved : goal.loop-step-preserved
@@ -27,7 +27,7 @@ loop-step-preserved g c =
       ready = (step_of-after c.loop-step.invariant.ready s c.in_default-do_step.ensures.graph).ready;
       rest =
           ap (λ n. applied_from g.S.Schema.tables later (n + 1) q more) c.in-Some.ensures.1
-          ∙ sym (applied-done g.S.Schema.tables s later (c.loop-step.done + 1) p q touched more c.in_default-do_step.ensures.graph c.in_default-do_step.ensures.touched)
+          ∙ sym (step_done g.S.Schema.tables s later (c.loop-step.done + 1) p touched q more c.in_default-do_step.ensures.graph c.in_default-do_step.ensures.touched)
           ∙ ap (λ (zs : List Step). applied_from g.S.Schema.tables zs (c.loop-step.done + 1) p touched) (sym here)
           ∙ c.loop-step.invariant.rest;
     }

@@ -1,6 +1,6 @@
 use Rattle.std.proofs.Common.{◌≡◌, ◌+◌, drop}
-use Rattle.dg_base.specs.Touched.{applied_from}
-use Rattle.dg_base.proofs.SoundSteps.{IsReady}
+use Rattle.dg_base.specs.Progress.{IsReady}
+use Rattle.dg_base.specs.Transact.{applied_from}
 use Rattle.dg_tx.specs.Outcome.{progress}
 use Rattle.dg_tx.proofs.transaction.do_all.Given as goal
 
