@@ -1,5 +1,5 @@
 pub mod NameMaps
-pub mod Joins
-pub mod Places
+pub mod JoinedWords
+pub mod LastPlaces
 pub mod Overrides
-pub mod Latest
+pub mod LatestBinding

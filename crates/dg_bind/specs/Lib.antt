@@ -1,7 +1,7 @@
 -- In reading order.
 pub mod Bindings
-pub mod References
+pub mod Scope
 pub mod Steps
-pub mod Asked
+pub mod Question
 pub mod Outcome
 pub mod Code

@@ -2,64 +2,33 @@
 ghost use Rattle.std.specs.Prelude.{◌≡◌};
 ghost use Rattle.dg_bind.specs.Outcome.{at_step};
 
-use std::alloc::AllocError;
-use thiserror::Error;
+use dg_base::Refusal;
 
 /// What the words of a step name that isn't there.
 #[derive(Clone, Copy, PartialEq, Eq, Debug)]
 pub enum Missing {
-    /// A name that neither is bound nor was made before in the transaction.
+    /// A name that is neither bound nor that of a new node of the steps before.
     NoName,
     /// A label that isn't the schema's.
     NoLabel,
 }
 
-/// Why the words of a transaction are no steps.
-#[derive(Clone, Copy, PartialEq, Eq, Debug, Error)]
-pub enum BindRefusal {
-    /// The first step that misses a name or a label, counted from 1.
-    #[error("step {step} names what isn't there")]
-    Missing { step: u32, missing: Missing },
-    #[error("no memory")]
-    NoMemory,
+/// The first step that misses a name or a label, counted from 1, and which of them.
+#[derive(Clone, Copy, PartialEq, Eq, Debug)]
+pub struct MissingAt {
+    pub step: u32,
+    pub missing: Missing,
 }
 
-/// Why the words of a step are none.
-#[derive(Clone, Copy, Debug)]
-pub(crate) enum StepRefusal {
-    Missing(Missing),
-    NoMemory,
-}
-
-impl From<AllocError> for BindRefusal {
-    ghost use Rattle.dg_bind.specs.declared.refusal.BindRefusal.TheVariants.{NoMemory};
-
-    ghost from_gives = { λ _ refusal. refusal ≡ NoMemory };
-
-    fn from(_: AllocError) -> BindRefusal {
-        BindRefusal::NoMemory
-    }
-}
-
-impl From<AllocError> for StepRefusal {
-    ghost use Rattle.dg_bind.specs.declared.refusal.StepRefusal.TheVariants.{NoMemory};
-
-    ghost from_gives = { λ _ refusal. refusal ≡ NoMemory };
-
-    fn from(_: AllocError) -> StepRefusal {
-        StepRefusal::NoMemory
-    }
-}
-
-// The refusal of the transaction whose step has this number.
-pub(crate) fn at_step(number: u32, refusal: StepRefusal) -> BindRefusal
+/// The refusal of the transaction whose step has this number.
+pub(crate) fn at_step(number: u32, refusal: Refusal<Missing>) -> Refusal<MissingAt>
     ensures { result ≡ at_step number refusal }
 {
     match refusal {
-        StepRefusal::Missing(missing) => BindRefusal::Missing {
+        Refusal::Because(missing) => Refusal::Because(MissingAt {
             step: number,
             missing,
-        },
-        StepRefusal::NoMemory => BindRefusal::NoMemory,
+        }),
+        Refusal::NoMemory => Refusal::NoMemory,
     }
 }

@@ -1,5 +1,6 @@
-use crate::{BindRefusal, Bindings, bind_steps};
-use dg_base::{Names, NodeId};
+//! Blocks of a script, and the steps that their words are.
+use crate::{Bindings, MissingAt, bind_steps};
+use dg_base::{Names, NodeId, Refusal};
 use dg_script::{Act, Command, StepWords, read_script};
 use std::alloc::{AllocError, Global};
 use std::test::Fail;
@@ -70,13 +71,13 @@ fn outcome(alloc: Global, steps: &[StepWords]) -> Result<String, AllocError> {
     let mut names = Names::new(alloc);
     match bind_steps(alloc, &bindings, &mut names, steps) {
         Ok(bound) => {
-            let (steps, made) = (bound.steps.as_slice(), bound.made.as_slice());
-            Ok(format!(in alloc; "{steps:?} {made:?} {}", names.count())?)
+            let (steps, new_names) = (bound.steps.as_slice(), bound.new_names.as_slice());
+            Ok(format!(in alloc; "{steps:?} {new_names:?} {}", names.count())?)
         }
-        Err(BindRefusal::Missing { step, missing }) => {
+        Err(Refusal::Because(MissingAt { step, missing })) => {
             Ok(format!(in alloc; "step {step} {missing:?} {}", names.count())?)
         }
-        Err(BindRefusal::NoMemory) => Err(AllocError),
+        Err(Refusal::NoMemory) => Err(AllocError),
     }
 }
 

@@ -1,22 +1,23 @@
 //! The steps of a transaction, from their words.
 ghost use Rattle.std.specs.Prelude.{◌≡◌, ◌++◌, ◌∷◌, [], Ok, IfOk, IfErr, OnOk};
-ghost use Rattle.dg_bind.specs.Steps.{steps_bound, with_name, made_by};
+ghost use Rattle.dg_bind.specs.Steps.{steps_bound, with_name, new_name};
 ghost use Rattle.dg_bind.specs.Outcome.{IsMissing};
 
 use crate::bindings::Bindings;
-use crate::refusal::{BindRefusal, at_step};
-use crate::steps::{bind_step, made_by};
-use dg_base::{Names, Step, Str};
+use crate::refusal::{MissingAt, at_step};
+use crate::scope::Scope;
+use crate::steps::{bind_step, new_name};
+use dg_base::{Names, Refusal, Step, Str};
 use dg_script::StepWords;
 use sqlite_items::Items;
 use std::alloc::{AllocError, Global};
 
-/// The steps of a transaction, and the names of the nodes that they make: one for each Make and
-/// Override, in order. Contracts see both lists.
+/// The steps of a transaction, and the names of their new nodes: one for each Make and Override, in
+/// order. Contracts see both lists.
 #[derive(Debug, Drop)]
-pub struct Bound {
+pub struct BoundSteps {
     pub steps: Items<Step>,
-    pub made: Items<Str>,
+    pub new_names: Items<Str>,
 }
 
 /// The steps of these words, or the first step that names what isn't there. New open names are
@@ -27,25 +28,27 @@ pub fn bind_steps(
     bindings: &Bindings,
     names: &mut Names,
     words: &[StepWords],
-) -> Result<Bound, BindRefusal>
-    ensures steps { IfOk result (λ b. steps_bound bindings.now names.old words.now ≡ Ok (record { steps = b.steps; made = b.made; names = names.new })) }
+) -> Result<BoundSteps, Refusal<MissingAt>>
+    ensures steps { IfOk result (λ b. steps_bound bindings.now names.old words.now ≡ Ok (record { steps = b.steps; new_names = b.new_names; names = names.new })) }
     ensures missing { IfErr result (λ r. IsMissing r (steps_bound bindings.now names.old words.now) names.new) }
 {
-    let mut bound = Bound {
+    let mut bound = BoundSteps {
         steps: Items::new(alloc),
-        made: Items::new(alloc),
+        new_names: Items::new(alloc),
     };
     let mut done = 0u32;
     for step in words {
         let Some(number) = done.checked_add(1) else {
-            return Err(BindRefusal::NoMemory);
+            return Err(Refusal::NoMemory);
         };
-        match bind_step(alloc, bindings, bound.made.as_slice(), names, step) {
+        let scope = Scope {
+            bindings,
+            new_names: bound.new_names.as_slice(),
+        };
+        match bind_step(alloc, &scope, names, step) {
             Ok(taken) => {
-                if bound.steps.push(taken).is_err() {
-                    return Err(BindRefusal::NoMemory);
-                }
-                add_name(&mut bound.made, step)?;
+                bound.steps.push(taken)?;
+                add_name(&mut bound.new_names, step)?;
             }
             Err(refusal) => return Err(at_step(number, refusal)),
         }
@@ -54,14 +57,12 @@ pub fn bind_steps(
     Ok(bound)
 }
 
-// Puts the name of the node that the step makes behind the others.
-fn add_name(made: &mut Items<Str>, words: &StepWords) -> Result<(), AllocError>
-    ensures { OnOk result (made.new ≡ with_name made.old (made_by words.now)) }
+// Puts the name of the step's new node behind the others.
+fn add_name(new_names: &mut Items<Str>, words: &StepWords) -> Result<(), AllocError>
+    ensures { OnOk result (new_names.new ≡ with_name new_names.old (new_name words.now)) }
 {
-    if let Some(name) = made_by(words) {
-        if made.push(name.copy()?).is_err() {
-            return Err(AllocError);
-        }
+    if let Some(name) = new_name(words) {
+        new_names.push(name.copy()?)?;
     }
     Ok(())
 }

@@ -7,7 +7,8 @@ use Rattle.dg_ptext.specs.declared.tree.Value.{Value}
 use Rattle.dg_ptext.specs.declared.tree.Value.TheVariants as value
 use Rattle.dg_ptext.specs.declared.token.Token.{Token}
 use Rattle.dg_ptext.specs.declared.token.Token.TheVariants as token
-use Rattle.dg_ptext.specs.Token.{Placed, is_name, tokens}
+use Rattle.dg_text.specs.Names.{is_name}
+use Rattle.dg_ptext.specs.Token.{Placed, tokens}
 
 -- a token on a line
 abbrev pub on : ℕ → Token → Placed

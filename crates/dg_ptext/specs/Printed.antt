@@ -1,23 +1,9 @@
 -- The one text that a tree is printed as.
-use Rattle.std.specs.Prelude.{ℕ, ◌+◌, ◌/◌, ◌%◌, ◌||◌, List, [], ◌∷◌, ◌++◌, ◌==◌, nat_lt, if◌then◌else◌}
+use Rattle.std.specs.Prelude.{ℕ, List, [], ◌∷◌, ◌++◌}
 use Rattle.std.specs.List.{flat_map}
+use Rattle.dg_text.specs.Quoted.{quoted}
 use Rattle.dg_ptext.specs.declared.tree.Field.{Field}
 use Rattle.dg_ptext.specs.declared.tree.Value.{Value, Bare, Quoted, Message', Row_of-Field, end_of-Field, more_of-Field}
-
--- A byte of a quoted text: `\"`, `\\`, `\n`, `\r`, `\t`, three octal digits for what else is below 32 and for 127,
--- and else the byte itself.
-unfoldable pub escaped : ℕ → List ℕ
-escaped b =
-    if b == 34 then 92 ∷ 34 ∷ [] else
-    (if b == 92 then 92 ∷ 92 ∷ [] else
-    (if b == 10 then 92 ∷ 110 ∷ [] else
-    (if b == 13 then 92 ∷ 114 ∷ [] else
-    (if b == 9 then 92 ∷ 116 ∷ [] else
-    (if (nat_lt b 32 || b == 127) then 92 ∷ (48 + b / 64) ∷ (48 + b / 8 % 8) ∷ (48 + b % 8) ∷ [] else b ∷ [])))))
-
--- a text between quotes
-abbrev pub quoted : List ℕ → List ℕ
-quoted text = 34 ∷ flat_map escaped text ++ 34 ∷ []
 
 -- A field stands on a line of its own behind a margin: its name, a colon, a blank and its value, or its name, a blank,
 -- an opening brace, its fields with a margin of two blanks more, and a closing brace on a line of its own.

@@ -1,8 +1,8 @@
 -- Which bytes are which tokens.
-use Rattle.std.specs.Prelude.{ℕ, ◌+◌, ◌*◌, ◌-◌, ◌^◌, min, zero, suc, Bool, false, ◌&&◌, ◌||◌, not, List, [], ◌∷◌, ◌++◌, ◌==◌, nat_lt, if◌then◌else◌, Option, Some, None, option_and_then}
-use Rattle.std.specs.Char.{is_ascii_alphabetic, is_ascii_alphanumeric, digit_value}
-use Rattle.std.specs.List.{list_all, prefix_len, take_while}
-use Rattle.std.specs.Str.{is_utf8}
+use Rattle.std.specs.Prelude.{ℕ, ◌+◌, ◌*◌, ◌-◌, ◌^◌, min, zero, suc, Bool, ◌&&◌, ◌||◌, not, List, [], ◌∷◌, ◌++◌, ◌==◌, nat_lt, if◌then◌else◌, Option, Some, None, option_and_then}
+use Rattle.std.specs.Char.{is_ascii_alphanumeric, digit_value}
+use Rattle.std.specs.List.{prefix_len, take_while}
+use Rattle.dg_text.specs.Decoded.{text_of}
 use Rattle.dg_ptext.specs.declared.escapes.Escape.{Escape}
 use Rattle.dg_ptext.specs.declared.escapes.Body.{Body}
 use Rattle.dg_ptext.specs.declared.escapes.Numeral.{Numeral}
@@ -17,17 +17,6 @@ is_blank b = b == 32 || b == 9 || b == 13 || b == 10
 
 unfoldable pub is_word_byte : ℕ → Bool
 is_word_byte b = is_ascii_alphanumeric b || b == 95 || b == 46 || b == 43 || b == 45
-
-unfoldable pub is_name_byte : ℕ → Bool
-is_name_byte b = is_ascii_alphanumeric b || b == 95
-
-unfoldable pub begins_name : ℕ → Bool
-begins_name b = is_ascii_alphabetic b || b == 95
-
--- a word that is a name: it begins with a letter or `_`, and has letters, digits and `_` alone
-abbrev pub is_name : List ℕ → Bool
-is_name [] = false
-is_name (b ∷ bs) = begins_name b && list_all is_name_byte bs
 
 -- ---- strings
 
@@ -84,10 +73,6 @@ body quote before taken zero (b ∷ bs) =
 
 abbrev pub bad : Piece
 bad = record { token = Some token.Bad; taken = 0 }
-
--- the bytes, where they are UTF-8
-abbrev pub text_of : List ℕ → Option (List ℕ)
-text_of bytes = if is_utf8 bytes then Some bytes else None
 
 abbrev pub string_by : ℕ → Option (List ℕ) → Piece
 string_by taken None = bad

@@ -1,8 +1,9 @@
 //! Printing a tree.
 ghost use Rattle.std.specs.Prelude.{◌≡◌, ◌∷◌, ◌++◌, [], IfOk, OnOk};
-ghost use Rattle.dg_ptext.specs.Printed.{escaped, quoted, printed, printed_field, printed_value};
+ghost use Rattle.dg_ptext.specs.Printed.{printed, printed_field, printed_value};
 
 use crate::tree::{Field, Tree, Value};
+use dg_text::put_quoted;
 use std::alloc::{AllocError, Global};
 
 /// The bytes of a text. Contracts see the list.
@@ -55,7 +56,7 @@ fn print_value(
         }
         Value::Quoted(text) => {
             out.extend_from_slice(b": ")?;
-            push_quoted(out, text.as_str().as_bytes())?;
+            put_quoted(out, text.as_str())?;
             out.push(b'\n')?;
         }
         Value::Message(fields) => {
@@ -68,36 +69,4 @@ fn print_value(
         }
     }
     Ok(())
-}
-
-// A text between quotes, each byte escaped that needs it.
-fn push_quoted(out: &mut Vec<u8>, text: &[u8]) -> Result<(), AllocError>
-    ensures { OnOk result (out.new.items ≡ out.old.items ++ quoted text.now) }
-{
-    out.push(b'"')?;
-    for byte in text {
-        push_escaped(out, *byte)?;
-    }
-    out.push(b'"')?;
-    Ok(())
-}
-
-#[tactic(auto, unfolding(crate::specs::Printed::escaped))]
-fn push_escaped(out: &mut Vec<u8>, byte: u8) -> Result<(), AllocError>
-    ensures { OnOk result (out.new.items ≡ out.old.items ++ escaped byte) }
-{
-    match byte {
-        b'"' => out.extend_from_slice(b"\\\""),
-        b'\\' => out.extend_from_slice(b"\\\\"),
-        b'\n' => out.extend_from_slice(b"\\n"),
-        b'\r' => out.extend_from_slice(b"\\r"),
-        b'\t' => out.extend_from_slice(b"\\t"),
-        0..=31 | 127 => out.extend_from_slice(&[
-            b'\\',
-            b'0' + byte / 64,
-            b'0' + byte / 8 % 8,
-            b'0' + byte % 8,
-        ]),
-        _ => out.extend_from_slice(&[byte]),
-    }
 }

@@ -1,11 +1,13 @@
 //! Where the reader stands between two tokens.
 ghost use Rattle.std.specs.Prelude.{◌≡◌, OnOk};
-ghost use Rattle.dg_ptext.specs.Reading.{Gives, before_field, behind_field, behind_name, behind_colon, behind_strings, closed, innermost, opened, valued, with_field, step, end, start};
+ghost use Rattle.dg_base.specs.Refusal.{Gives};
+ghost use Rattle.dg_ptext.specs.Reading.{before_field, behind_field, behind_name, behind_colon, behind_strings, closed, innermost, opened, valued, with_field, step, end, start};
 
-use crate::refusal::TextRefusal;
-use crate::token::{Text, Token, is_name};
+use crate::refusal::TextCode;
+use crate::token::{Text, Token};
 use crate::tree::{Field, Tree, Value};
-use dg_base::Str;
+use dg_base::{Refusal, Str};
+use dg_text::is_name;
 use sqlite_items::Items;
 use std::alloc::{AllocError, Global};
 
@@ -54,8 +56,13 @@ impl State {
 
     /// The state behind one more token, in constant time but for what a string adds.
     #[tactic(auto, unfolding(crate::specs::Reading::step))]
-    pub(crate) fn step(self, alloc: Global, here: u32, token: Token) -> Result<State, TextRefusal>
-        ensures { Gives result (step self here token) }
+    pub(crate) fn step(
+        self,
+        alloc: Global,
+        here: u32,
+        token: Token,
+    ) -> Result<State, Refusal<TextCode>>
+        ensures { Gives (λ x. x) result (step self here token) }
     {
         let State {
             around,
@@ -66,51 +73,21 @@ impl State {
             Phase::Before => before_field(around, fields, here, token),
             Phase::Behind => behind_field(around, fields, here, token),
             Phase::Named { name, line } => {
-                behind_name(
-                    alloc,
-                    Front {
-                        around,
-                        fields,
-                        name,
-                        line,
-                    },
-                    here,
-                    token,
-                )
+                behind_name(alloc, Front::new(around, fields, name, line), here, token)
             }
             Phase::Colon { name, line, at: _ } => {
-                behind_colon(
-                    alloc,
-                    Front {
-                        around,
-                        fields,
-                        name,
-                        line,
-                    },
-                    here,
-                    token,
-                )
+                behind_colon(alloc, Front::new(around, fields, name, line), here, token)
             }
             Phase::Strings { name, line, text } => {
-                behind_strings(
-                    Front {
-                        around,
-                        fields,
-                        name,
-                        line,
-                    },
-                    text,
-                    here,
-                    token,
-                )
+                behind_strings(Front::new(around, fields, name, line), text, here, token)
             }
         }
     }
 
     /// What the text says that ends here.
     #[tactic(auto, unfolding(crate::specs::Reading::end))]
-    pub(crate) fn end(self) -> Result<Tree, TextRefusal>
-        ensures { Gives result (end self) }
+    pub(crate) fn end(self) -> Result<Tree, Refusal<TextCode>>
+        ensures { Gives (λ x. x) result (end self) }
     {
         let State {
             mut around,
@@ -118,17 +95,17 @@ impl State {
             phase,
         } = self;
         if let Some(inner) = around.pop() {
-            return Err(TextRefusal::Unclosed { line: inner.brace });
+            return Err(Refusal::Because(TextCode::Unclosed { line: inner.brace }));
         }
         match phase {
             Phase::Before => Ok(fields),
             Phase::Behind => Ok(fields),
-            Phase::Named { name: _, line } => Err(TextRefusal::Token { line }),
+            Phase::Named { name: _, line } => Err(Refusal::Because(TextCode::Token { line })),
             Phase::Colon {
                 name: _,
                 line: _,
                 at,
-            } => Err(TextRefusal::Token { line: at }),
+            } => Err(Refusal::Because(TextCode::Token { line: at })),
             Phase::Strings { name, line, text } => {
                 push(&mut fields, name, line, Value::Quoted(text.into_str()))?;
                 Ok(fields)
@@ -146,6 +123,19 @@ struct Front {
     line: u32,
 }
 
+impl Front {
+    fn new(around: Items<Opened>, fields: Tree, name: Str, line: u32) -> Front
+        ensures { result ≡ record { around = around; fields = fields; name = name; line = line } }
+    {
+        Front {
+            around,
+            fields,
+            name,
+            line,
+        }
+    }
+}
+
 fn push(fields: &mut Tree, name: Str, line: u32, value: Value) -> Result<(), AllocError>
     ensures { OnOk result (fields.new ≡ with_field fields.old name line value) }
 {
@@ -157,14 +147,14 @@ fn before_field(
     fields: Tree,
     here: u32,
     token: Token,
-) -> Result<State, TextRefusal>
-    ensures { Gives result (before_field around fields here token) }
+) -> Result<State, Refusal<TextCode>>
+    ensures { Gives (λ x. x) result (before_field around fields here token) }
 {
     match token {
         Token::Close => close_message(around, fields, here),
         Token::Word(name) => {
-            if !is_name(name.as_str().as_bytes()) {
-                return Err(TextRefusal::Token { line: here });
+            if !is_name(name.as_str()) {
+                return Err(Refusal::Because(TextCode::Token { line: here }));
             }
             Ok(State {
                 around,
@@ -172,7 +162,7 @@ fn before_field(
                 phase: Phase::Named { name, line: here },
             })
         }
-        _ => Err(TextRefusal::Token { line: here }),
+        _ => Err(Refusal::Because(TextCode::Token { line: here })),
     }
 }
 
@@ -181,8 +171,8 @@ fn behind_field(
     fields: Tree,
     here: u32,
     token: Token,
-) -> Result<State, TextRefusal>
-    ensures { Gives result (behind_field around fields here token) }
+) -> Result<State, Refusal<TextCode>>
+    ensures { Gives (λ x. x) result (behind_field around fields here token) }
 {
     match token {
         Token::Comma | Token::Semicolon => Ok(State {
@@ -194,8 +184,13 @@ fn behind_field(
     }
 }
 
-fn behind_name(alloc: Global, front: Front, here: u32, token: Token) -> Result<State, TextRefusal>
-    ensures { Gives result (behind_name front.around front.fields front.name front.line here token) }
+fn behind_name(
+    alloc: Global,
+    front: Front,
+    here: u32,
+    token: Token,
+) -> Result<State, Refusal<TextCode>>
+    ensures { Gives (λ x. x) result (behind_name front.around front.fields front.name front.line here token) }
 {
     match token {
         Token::Colon => {
@@ -216,12 +211,17 @@ fn behind_name(alloc: Global, front: Front, here: u32, token: Token) -> Result<S
             })
         }
         Token::Open => open_message(alloc, front, here),
-        _ => Err(TextRefusal::Token { line: here }),
+        _ => Err(Refusal::Because(TextCode::Token { line: here })),
     }
 }
 
-fn behind_colon(alloc: Global, front: Front, here: u32, token: Token) -> Result<State, TextRefusal>
-    ensures { Gives result (behind_colon front.around front.fields front.name front.line here token) }
+fn behind_colon(
+    alloc: Global,
+    front: Front,
+    here: u32,
+    token: Token,
+) -> Result<State, Refusal<TextCode>>
+    ensures { Gives (λ x. x) result (behind_colon front.around front.fields front.name front.line here token) }
 {
     match token {
         Token::Word(word) => with_value(front, Value::Bare(word)),
@@ -239,12 +239,17 @@ fn behind_colon(alloc: Global, front: Front, here: u32, token: Token) -> Result<
             })
         }
         Token::Open => open_message(alloc, front, here),
-        _ => Err(TextRefusal::Token { line: here }),
+        _ => Err(Refusal::Because(TextCode::Token { line: here })),
     }
 }
 
-fn behind_strings(front: Front, text: Text, here: u32, token: Token) -> Result<State, TextRefusal>
-    ensures { Gives result (behind_strings front.around front.fields front.name front.line text here token) }
+fn behind_strings(
+    front: Front,
+    text: Text,
+    here: u32,
+    token: Token,
+) -> Result<State, Refusal<TextCode>>
+    ensures { Gives (λ x. x) result (behind_strings front.around front.fields front.name front.line text here token) }
 {
     let Front {
         around,
@@ -270,8 +275,8 @@ fn behind_strings(front: Front, text: Text, here: u32, token: Token) -> Result<S
 }
 
 // The state behind a value that isn't a message.
-fn with_value(front: Front, value: Value) -> Result<State, TextRefusal>
-    ensures { Gives result (valued front.around front.fields front.name front.line value) }
+fn with_value(front: Front, value: Value) -> Result<State, Refusal<TextCode>>
+    ensures { Gives (λ x. x) result (valued front.around front.fields front.name front.line value) }
 {
     let Front {
         around,
@@ -287,8 +292,8 @@ fn with_value(front: Front, value: Value) -> Result<State, TextRefusal>
     })
 }
 
-fn open_message(alloc: Global, front: Front, here: u32) -> Result<State, TextRefusal>
-    ensures { Gives result (opened front.around front.fields front.name front.line here) }
+fn open_message(alloc: Global, front: Front, here: u32) -> Result<State, Refusal<TextCode>>
+    ensures { Gives (λ x. x) result (opened front.around front.fields front.name front.line here) }
 {
     let Front {
         mut around,
@@ -297,7 +302,7 @@ fn open_message(alloc: Global, front: Front, here: u32) -> Result<State, TextRef
         line,
     } = front;
     if around.len() == DEEPEST {
-        return Err(TextRefusal::Nesting { line: here });
+        return Err(Refusal::Because(TextCode::Nesting { line: here }));
     }
     around.push(Opened {
         name,
@@ -312,12 +317,12 @@ fn open_message(alloc: Global, front: Front, here: u32) -> Result<State, TextRef
     })
 }
 
-fn close_message(around: Items<Opened>, fields: Tree, here: u32) -> Result<State, TextRefusal>
-    ensures { Gives result (closed (innermost around) fields here) }
+fn close_message(around: Items<Opened>, fields: Tree, here: u32) -> Result<State, Refusal<TextCode>>
+    ensures { Gives (λ x. x) result (closed (innermost around) fields here) }
 {
     let mut around = around;
     let Some(inner) = around.pop() else {
-        return Err(TextRefusal::Token { line: here });
+        return Err(Refusal::Because(TextCode::Token { line: here }));
     };
     let Opened {
         name,

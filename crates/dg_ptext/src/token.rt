@@ -1,7 +1,8 @@
 //! Tokens.
 ghost use Rattle.std.specs.Prelude.{◌≡◌, ◌≤◌, ◌++◌, ◌∷◌, [], true, length, OnOk, IfOk};
-ghost use Rattle.std.specs.List.{list_all, prefix_len};
-ghost use Rattle.dg_ptext.specs.Token.{is_word_byte, is_name_byte, begins_name, is_name, is_blank, in_comment, text_of, piece, word, string_of, bad, mark, body};
+ghost use Rattle.std.specs.List.{prefix_len};
+ghost use Rattle.dg_text.specs.Decoded.{text_of};
+ghost use Rattle.dg_ptext.specs.Token.{is_word_byte, is_blank, in_comment, piece, word, string_of, bad, mark, body};
 
 use crate::escapes::{Bytes, string_body};
 use dg_base::Str;
@@ -64,41 +65,10 @@ fn is_word_byte(byte: u8) -> bool
     byte.is_ascii_alphanumeric() || byte == b'_' || byte == b'.' || byte == b'+' || byte == b'-'
 }
 
-#[tactic(auto, unfolding(crate::specs::Token::is_name_byte))]
-fn is_name_byte(byte: u8) -> bool
-    ensures { result ≡ is_name_byte byte }
-{
-    byte.is_ascii_alphanumeric() || byte == b'_'
-}
-
 fn is_blank(byte: u8) -> bool
     ensures { result ≡ is_blank byte }
 {
     byte == b' ' || byte == b'\t' || byte == b'\r' || byte == b'\n'
-}
-
-#[tactic(auto, unfolding(crate::specs::Token::begins_name))]
-fn begins_name(byte: u8) -> bool
-    ensures { result ≡ begins_name byte }
-{
-    byte.is_ascii_alphabetic() || byte == b'_'
-}
-
-// Whether all bytes may stand in a name.
-fn are_name_bytes(bytes: &[u8]) -> bool
-    ensures { result ≡ list_all is_name_byte bytes.now }
-{
-    bytes.iter().all(|byte| is_name_byte(*byte))
-}
-
-/// Whether a word is a name.
-pub(crate) fn is_name(word: &[u8]) -> bool
-    ensures { result ≡ is_name word.now }
-{
-    let Some((first, behind)) = word.split_first() else {
-        return false;
-    };
-    begins_name(*first) && are_name_bytes(behind)
 }
 
 // How many bytes of a word stand in front.

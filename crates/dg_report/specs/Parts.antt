@@ -1,5 +1,5 @@
 -- The parts of a printed answer: labels, endpoints, codes, type words, vectors.
-use Rattle.std.specs.Prelude.{ℕ, List, [], ◌∷◌, ◌++◌, cond, codes, nat_lt, Option, Some, None, ℤ}
+use Rattle.std.specs.Prelude.{ℕ, List, [], ◌∷◌, ◌++◌, cond, codes, Option, Some, None, ℤ}
 use Rattle.std.specs.List.{flat_map}
 use Rattle.std.specs.Fmt.{decimal}
 use Rattle.dg_base.specs.declared.ids.Label.{Label}
@@ -8,13 +8,14 @@ use Rattle.dg_base.specs.declared.datum.PType.{PType}
 use Rattle.dg_base.specs.declared.datum.PType.TheVariants as ptype
 use Rattle.dg_base.specs.declared.answer.FaultCode.{FaultCode}
 use Rattle.dg_base.specs.declared.answer.FaultCode.TheVariants as code
-use Rattle.dg_base.specs.Labels.{name_of_label}
+use Rattle.dg_base.specs.Rule.{is_open_label}
 use Rattle.dg_base.specs.Names.{text_at}
+use Rattle.dg_labels.specs.Labels.{name_of_label}
 use Rattle.dg_decimal.specs.Canonical.{canonical}
 
--- the name of a label: the schema's below 1,024, and else the interned one
+-- the name of a label: an open one's is the interned text, another's the schema's
 unfoldable pub name_of : List (List ℕ) → Label → Option (List ℕ)
-name_of names label = cond (nat_lt label.0 1024) (name_of_label label) (text_at names label)
+name_of names label = cond (is_open_label label) (text_at names label) (name_of_label label)
 
 abbrev pub or_number : ℕ → Option (List ℕ) → List ℕ
 or_number number None = decimal number
@@ -26,7 +27,7 @@ label_text names label = or_number label.0 (name_of names label)
 
 -- `.` stands before a label of the schema, `:` before an open one
 abbrev pub mark_of : Label → ℕ
-mark_of label = cond (nat_lt label.0 1024) 46 58
+mark_of label = cond (is_open_label label) 58 46
 
 abbrev pub endpoint_text : List (List ℕ) → Endpoint → List ℕ
 endpoint_text names at = decimal at.node.0 ++ mark_of at.label ∷ label_text names at.label

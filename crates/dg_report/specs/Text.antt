@@ -8,7 +8,7 @@ use Rattle.dg_base.specs.declared.datum.PropVal.{PropVal}
 use Rattle.dg_base.specs.declared.answer.Answer.{Answer}
 use Rattle.dg_base.specs.declared.answer.Answer.TheVariants as answer
 use Rattle.dg_base.specs.declared.answer.Fault.{Fault}
-use Rattle.dg_report.specs.Quoted.{quoted}
+use Rattle.dg_text.specs.Quoted.{quoted}
 use Rattle.dg_report.specs.Parts.{label_text, endpoint_text, code_text, type_word, joined, number_text, vec3_text, quat_text}
 
 -- an open property: its name, its type word and its quoted text

@@ -19,7 +19,8 @@ pub fn answer_text(alloc: Global, answer: &Answer, names: &Names) -> Result<Vec<
     Ok(out)
 }
 
-fn put_answer(out: &mut Vec<u8>, answer: &Answer, names: &Names) -> Result<(), AllocError>
+/// The same, put behind what is there.
+pub fn put_answer(out: &mut Vec<u8>, answer: &Answer, names: &Names) -> Result<(), AllocError>
     ensures { OnOk result (out.new.items ≡ out.old.items ++ answer_text answer.now names.now) }
 {
     match answer {

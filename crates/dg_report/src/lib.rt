@@ -1,15 +1,15 @@
-//! Printed text: what is shown of an answer, and a text between quotes.
+//! Printed text: what is shown of an answer, part by part.
+//!
+//! [`answer_text`] makes a text, and [`put_answer`] puts it behind what is there. In reading order: `parts` prints numbers, labels, endpoints and vectors,
+//! `values` prints values, and `answers` prints answers. `specs/` says what is printed: `Parts` and `Text`;
+//! `Worked` has answers of which the checker computes the text.
 #![tactic(auto)]
 
 mod answers;
-mod laws;
 mod parts;
-mod quotes;
 #[cfg(test)]
 mod tests;
 mod values;
 pub mod worked;
 
-pub use answers::answer_text;
-pub use laws::{quoted_apart, reads_back};
-pub use quotes::quoted;
+pub use answers::{answer_text, put_answer};

@@ -4,21 +4,19 @@ ghost use Rattle.std.specs.Option.{option_map};
 ghost use Rattle.std.specs.Fmt.{decimal};
 ghost use Rattle.dg_report.specs.Parts.{name_of, label_text, mark_of, endpoint_text, code_text, type_word, number_text, next_text, vec3_text, quat_text};
 
-use dg_base::{Endpoint, FaultCode, Label, Names, PType, V3, V4, label_name};
+use dg_base::{Endpoint, FaultCode, Label, Names, PType, V3, V4};
+use dg_labels::label_name;
 use itoa::Buffer;
 use std::alloc::AllocError;
-
-// The first label of an interned name.
-const FIRST_OPEN: u64 = 1024;
 
 #[tactic(auto, unfolding(crate::specs::Parts::name_of))]
 fn name_of(label: Label, names: &Names) -> Option<&str>
     ensures { option_map (λ t. t.now) result ≡ name_of names.now label }
 {
-    if label.0 < FIRST_OPEN {
-        label_name(label)
-    } else {
+    if label.is_open() {
         names.text(label)
+    } else {
+        label_name(label)
     }
 }
 
@@ -35,7 +33,7 @@ pub(crate) fn put_label(out: &mut Vec<u8>, label: Label, names: &Names) -> Resul
 fn mark_of(label: Label) -> u8
     ensures { result ≡ mark_of label }
 {
-    if label.0 < FIRST_OPEN { b'.' } else { b':' }
+    if label.is_open() { b':' } else { b'.' }
 }
 
 /// The node's id, a mark, and the label: `.` before one of the schema, `:` before an open one.

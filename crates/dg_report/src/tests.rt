@@ -1,26 +1,11 @@
-use crate::{answer_text, quoted};
+//! What is printed of values and faults.
+use crate::answer_text;
 use dg_base::{
     Answer, Datum, Endpoint, Fault, FaultCode, Faults, FieldOf, Fields, Items, Label, Names,
     NodeId, PType, PropVal, Str, V3, V4,
 };
 use std::alloc::{AllocError, Global};
 use std::test::Fail;
-
-/// Texts, and how they are quoted: every escape, the bytes beside them, and bytes from 128 upward.
-static QUOTES: [(&str, &str); 12] = [
-    ("", "\"\""),
-    ("\"", "\"\\\"\""),
-    ("\\", "\"\\\\\""),
-    ("\n", "\"\\n\""),
-    ("\r", "\"\\r\""),
-    ("\t", "\"\\t\""),
-    ("\0", "\"\\000\""),
-    ("\x08\x0b\x0c", "\"\\010\\013\\014\""),
-    ("\x1f", "\"\\037\""),
-    (" !'~", "\" !'~\""),
-    ("\x7f", "\"\\177\""),
-    ("\u{80}é7", "\"\u{80}é7\""),
-];
 
 /// The types of open properties, and how one is printed.
 static TYPES: [(PType, &str); 7] = [
@@ -87,15 +72,6 @@ fn record_of(alloc: Global, values: [Datum; 4]) -> Result<Datum, AllocError> {
         }
     }
     Ok(Datum::Rec(fields))
-}
-
-fn quotes(alloc: Global) -> Result<bool, AllocError> {
-    for case in &QUOTES {
-        if quoted(alloc, case.0)?.as_slice() != case.1.as_bytes() {
-            return Ok(false);
-        }
-    }
-    Ok(true)
 }
 
 fn shows_plain_values(alloc: Global) -> Result<bool, AllocError> {
@@ -167,12 +143,6 @@ fn shows_faults(alloc: Global) -> Result<bool, AllocError> {
         &Answer::Bad(Faults::of(faults)),
         "fault 1.value NoEndpoint, 20.child Defective, 3:speed Range, 4:a b NoResource, 4294967295:1026 DuplicateId, 5.0 PropType, 6.32 BadName, 7.1023 TooLong",
     )
-}
-
-#[test]
-fn quotes_every_escape(rt: HostRuntime) -> Result<(), Fail> {
-    assert!(rt; quotes(rt.alloc())?);
-    Ok(())
 }
 
 #[test]

@@ -3,8 +3,8 @@ ghost use Rattle.std.specs.Prelude.{◌≡◌, ◌++◌, cond, codes, OnOk};
 ghost use Rattle.dg_report.specs.Text.{property_text, value_text, field_text, list_text, record_text};
 
 use crate::parts::{put_label, put_number, put_quat, put_vec3, type_word};
-use crate::quotes::put_quoted;
 use dg_base::{Datum, FieldOf, Names, PropVal};
+use dg_text::put_quoted;
 use std::alloc::AllocError;
 
 /// The value's text, in time linear in it. It is a recursion as deep as lists and records lie in one

@@ -1,20 +1,12 @@
 //! Worked cases: each function here has an empty body, and its contract states what is printed of a
 //! value of `specs/Worked.antt`. The checker computes them.
-ghost use Rattle.std.specs.Prelude.{◌≡◌, [], ◌∷◌, codes};
+ghost use Rattle.std.specs.Prelude.{◌≡◌, codes};
 ghost use Rattle.dg_base.specs.declared.answer.Answer.TheVariants as answer;
-ghost use Rattle.dg_report.specs.Quoted.{quoted};
 ghost use Rattle.dg_report.specs.Text.{value_text, answer_text};
 ghost use Rattle.dg_report.specs.Worked.{one_name, component, faults, property, some_values};
 
-/// Every escape, and a byte that needs none.
-#[tactic(auto, unfolding(crate::specs::Quoted::escaped))]
-pub fn quotes()
-    ensures escapes { quoted (34 ∷ 92 ∷ 10 ∷ 13 ∷ 9 ∷ 0 ∷ 31 ∷ 127 ∷ 195 ∷ []) ≡ 34 ∷ 92 ∷ 34 ∷ 92 ∷ 92 ∷ 92 ∷ 110 ∷ 92 ∷ 114 ∷ 92 ∷ 116 ∷ 92 ∷ 48 ∷ 48 ∷ 48 ∷ 92 ∷ 48 ∷ 51 ∷ 55 ∷ 92 ∷ 49 ∷ 55 ∷ 55 ∷ 195 ∷ 34 ∷ [] }
-    ensures empty { quoted [] ≡ codes "\"\"" }
-{}
-
 /// A record, an open property and a list.
-#[tactic(auto, unfolding(crate::specs::Quoted::escaped, crate::specs::Parts::name_of))]
+#[tactic(auto, unfolding(dg_text::specs::Quoted::escaped, crate::specs::Parts::name_of))]
 pub fn prints_values()
     ensures record_ { value_text one_name component ≡ codes "{id: \"c\", type: \"\", data: \"\", position: [0, 0, 0], rotation: [0, 0, 0, 1]}" }
     ensures property { value_text one_name property ≡ codes "speed vector3 \"1, 2, 3\"" }

@@ -1,5 +1,6 @@
 pub mod WordReading
 pub mod Numbers
-pub mod Marks
 pub mod LineEnds
 pub mod Blocks
+pub mod QuotedEscapes
+pub mod ReadBack

@@ -1,9 +1,7 @@
 -- Lines by their last one, and a line by its last byte.
-use Rattle.std.proofs.Common.{◌≡◌, ◌≢◌, ℕ, Some, None, arith, Bool, true, false, cond, List, [], ◌∷◌, ◌++◌, map, length, eqb, refl, sym, ap, ◌∙◌}
+use Rattle.std.proofs.Common.{◌≡◌, ◌≢◌, ℕ, arith, Bool, true, false, cond, List, [], ◌∷◌, ◌++◌, map, length, eqb, refl, sym, ap, ◌∙◌}
 use Rattle.std.proofs.lemmas.List.{map-append}
-use Rattle.std.proofs.lemmas.Str.{IsUtf8-from_is_utf8, is_utf8-from_IsUtf8}
 use Rattle.std.proofs.lemmas.Bool.Decides.{nat_tests}
-use Rattle.std.specs.Str.{IsUtf8, is_utf8}
 use Rattle.dg_script.specs.Script.{without_empty_end, without_return}
 
 cond_behind : {X : Type 0} (y : X) (b : Bool) (ls ms : List X) → y ∷ cond b ls ms ≡ cond b (y ∷ ls) (y ∷ ms)
@@ -52,14 +50,3 @@ returned line front b is e = sym (ap without_return is ∙ without_return-append
 
 pub unreturned : (line front : List ℕ) (b : ℕ) → line ≡ front ++ b ∷ [] → b ≢ 13 → line ≡ without_return line
 unreturned line front b is e = sym (ap without_return is ∙ without_return-append front b ∙ cond_false _ _ _ (no_return b e) ∙ sym is)
-
--- a line that is UTF-8 is its text
-pub is_text : (line : List ℕ) → IsUtf8 line → Some line ≡ cond (is_utf8 line) (Some line) None
-is_text line utf8 = sym (cond_true (is_utf8 line) (Some line) None (is_utf8-from_IsUtf8 line utf8))
-
-not_utf8 : (line : List ℕ) (test : Bool) → is_utf8 line ≡ test → ¬ (IsUtf8 line) → test ≡ false
-not_utf8 line true is not = absurd (not (IsUtf8-from_is_utf8 line is))
-not_utf8 line false is not = refl
-
-pub no_text : (line : List ℕ) → ¬ (IsUtf8 line) → None ≡ cond (is_utf8 line) (Some line) None
-no_text line not = sym (cond_false (is_utf8 line) (Some line) None (not_utf8 line (is_utf8 line) refl not))

@@ -4,7 +4,8 @@ use Rattle.std.proofs.lemmas.Bool.Decides.{nat_tests}
 use Rattle.std.proofs.lemmas.List.Folds.{list_all_at}
 use Rattle.std.proofs.Math.Nat.{pow-le-pow_right}
 use Rattle.std.specs.List.{list_all}
-use Rattle.dg_script.specs.Forms.{is_digit, is_number}
+use Rattle.std.specs.Char.{is_ascii_digit}
+use Rattle.dg_script.specs.Forms.{is_number}
 
 both_of : (a b : Bool) → a && b ≡ true → (a ≡ true) × (b ≡ true)
 both_of true b e = (refl, e)
@@ -18,9 +19,9 @@ passes_or p xs i d false is lt all = absurd (true≢false (sym all ∙ list_all_
 pub digit_step : (n i : ℕ) (text : List ℕ) → is_number text ≡ true → i < length text → n < 10 ^ i →
     (48 ≤ get_or text i 0) × (n * 10 + (get_or text i 0 - 48) < 10 ^ (i + 1)) × (10 ^ (i + 1) ≤ 100000000000000000000)
 digit_step n i text number lt below =
-    let parts = both_of (leb 1 (length text) && leb (length text) 20) (list_all is_digit text) number in
+    let parts = both_of (leb 1 (length text) && leb (length text) 20) (list_all is_ascii_digit text) number in
     let lengths = both_of (leb 1 (length text)) (leb (length text) 20) parts.0 in
-    let digit = both_of (leb 48 (get_or text i 0)) (leb (get_or text i 0) 57) (passes_or is_digit text i 0 (is_digit (get_or text i 0)) refl lt parts.1) in
+    let digit = both_of (leb 48 (get_or text i 0)) (leb (get_or text i 0) 57) (passes_or is_ascii_digit text i 0 (is_ascii_digit (get_or text i 0)) refl lt parts.1) in
     let short : length text ≤ 20 = grind (arith, nat_tests, lengths.1) in
     let low : 48 ≤ get_or text i 0 = grind (arith, nat_tests, digit.0) in
     let high : get_or text i 0 ≤ 57 = grind (arith, nat_tests, digit.1) in

@@ -1,5 +1,5 @@
 -- Which words are which line of a script: the first word says which command it is.
-use Rattle.std.specs.Prelude.{ℕ, List, [], ◌∷◌, Bool, true, false, cond, Option, Some, None, Result, Ok, Err, codes}
+use Rattle.std.specs.Prelude.{ℕ, List, [], ◌∷◌, Bool, true, false, cond, Option, Some, None, Result, Ok, Err, bytes_eq, codes}
 use Rattle.dg_script.specs.declared.command.ScriptCode.{ScriptCode}
 use Rattle.dg_script.specs.declared.command.ScriptCode.TheVariants as code
 use Rattle.dg_script.specs.declared.command.Act.{Act}
@@ -11,29 +11,29 @@ use Rattle.dg_script.specs.declared.verbs.Verb.TheVariants as verb
 use Rattle.dg_script.specs.declared.acts.Row.{Row}
 use Rattle.dg_script.specs.declared.acts.Row.TheVariants as row
 use Rattle.dg_script.specs.declared.words.Word.{Word}
-use Rattle.dg_script.specs.Gives.{◌>>=◌}
-use Rattle.dg_script.specs.Forms.{is_word, name_of, node_of, pin_name_of, pin_of, count_of, ep_of}
+use Rattle.dg_base.specs.Refusal.{and_then}
+use Rattle.dg_script.specs.Forms.{name_of, node_of, pin_name_of, pin_of, count_of, ep_of}
 use Rattle.dg_script.specs.Steps.{step_in}
 
 -- the commands by their words
 abbrev pub step_named : List ℕ → Option StepVerb
 step_named text =
-    cond (is_word text (codes "make")) (Some step.Make) (cond (is_word text (codes "override")) (Some step.Override)
-    (cond (is_word text (codes "set")) (Some step.Set) (cond (is_word text (codes "clear")) (Some step.Clear)
-    (cond (is_word text (codes "delete")) (Some step.Delete) (cond (is_word text (codes "defective")) (Some step.Defective)
-    (cond (is_word text (codes "connect")) (Some step.Connect)
-    (cond (is_word text (codes "disconnect")) (Some step.Disconnect) None)))))))
+    cond (bytes_eq text (codes "make")) (Some step.Make) (cond (bytes_eq text (codes "override")) (Some step.Override)
+    (cond (bytes_eq text (codes "set")) (Some step.Set) (cond (bytes_eq text (codes "clear")) (Some step.Clear)
+    (cond (bytes_eq text (codes "delete")) (Some step.Delete) (cond (bytes_eq text (codes "defective")) (Some step.Defective)
+    (cond (bytes_eq text (codes "connect")) (Some step.Connect)
+    (cond (bytes_eq text (codes "disconnect")) (Some step.Disconnect) None)))))))
 
 abbrev pub asking_named : List ℕ → Option Verb
 asking_named text =
-    cond (is_word text (codes "pin")) (Some verb.Pin) (cond (is_word text (codes "drop")) (Some verb.Drop)
-    (cond (is_word text (codes "ask")) (Some verb.Ask) (cond (is_word text (codes "build")) (Some verb.Build)
-    (cond (is_word text (codes "alias")) (Some verb.Alias) (cond (is_word text (codes "evict")) (Some verb.Evict) None)))))
+    cond (bytes_eq text (codes "pin")) (Some verb.Pin) (cond (bytes_eq text (codes "drop")) (Some verb.Drop)
+    (cond (bytes_eq text (codes "ask")) (Some verb.Ask) (cond (bytes_eq text (codes "build")) (Some verb.Build)
+    (cond (bytes_eq text (codes "alias")) (Some verb.Alias) (cond (bytes_eq text (codes "evict")) (Some verb.Evict) None)))))
 
 abbrev pub other_named : List ℕ → Option Verb
 other_named text =
-    cond (is_word text (codes "begin")) (Some verb.Begin) (cond (is_word text (codes "end")) (Some verb.End)
-    (cond (is_word text (codes "undo")) (Some verb.Undo) (cond (is_word text (codes "redo")) (Some verb.Redo) (asking_named text))))
+    cond (bytes_eq text (codes "begin")) (Some verb.Begin) (cond (bytes_eq text (codes "end")) (Some verb.End)
+    (cond (bytes_eq text (codes "undo")) (Some verb.Undo) (cond (bytes_eq text (codes "redo")) (Some verb.Redo) (asking_named text))))
 
 abbrev pub step_or_other : Option StepVerb → Option Verb → Option Verb
 step_or_other None other = other
@@ -57,40 +57,40 @@ alone r (_ ∷ _) = Err code.Arity
 
 -- pin NAME
 abbrev pub pin_in : List Word → Result Act ScriptCode
-pin_in (name ∷ []) = pin_name_of name.text >>= λ n. Ok (act.Pin n)
+pin_in (name ∷ []) = and_then (pin_name_of name.text) (λ n. Ok (act.Pin n))
 pin_in _ = Err code.Arity
 
 -- drop NAME
 abbrev pub drop_in : List Word → Result Act ScriptCode
-drop_in (name ∷ []) = pin_name_of name.text >>= λ n. Ok (act.Drop n)
+drop_in (name ∷ []) = and_then (pin_name_of name.text) (λ n. Ok (act.Drop n))
 drop_in _ = Err code.Arity
 
 -- ask PIN EP
 abbrev pub ask_in : List Word → Result Act ScriptCode
-ask_in (pin ∷ at ∷ []) = pin_of pin.text >>= λ p. (ep_of at.text >>= λ ep. Ok (act.Ask p ep))
+ask_in (pin ∷ at ∷ []) = and_then (pin_of pin.text) (λ p. and_then (ep_of at.text) (λ ep. Ok (act.Ask p ep)))
 ask_in _ = Err code.Arity
 
 -- build NODE
 abbrev pub build_in : List Word → Result Act ScriptCode
-build_in (node ∷ []) = node_of node.text >>= λ n. Ok (act.Build n)
+build_in (node ∷ []) = and_then (node_of node.text) (λ n. Ok (act.Build n))
 build_in _ = Err code.Arity
 
 -- alias NAME NODE
 abbrev pub alias_in : List Word → Result Act ScriptCode
-alias_in (name ∷ node ∷ []) = name_of name.text >>= λ n. (node_of node.text >>= λ m. Ok (act.Alias n m))
+alias_in (name ∷ node ∷ []) = and_then (name_of name.text) (λ n. and_then (node_of node.text) (λ m. Ok (act.Alias n m)))
 alias_in _ = Err code.Arity
 
 -- evict N
 abbrev pub evict_in : List Word → Result Act ScriptCode
-evict_in (most ∷ []) = count_of most.text >>= λ n. Ok (act.Evict n)
+evict_in (most ∷ []) = and_then (count_of most.text) (λ n. Ok (act.Evict n))
 evict_in _ = Err code.Arity
 
 abbrev pub as_act : Result Act ScriptCode → Result Row ScriptCode
-as_act read = read >>= λ a. Ok (row.Act a)
+as_act read = and_then read (λ a. Ok (row.Act a))
 
 -- the row of a command, by the words behind its first one
 abbrev pub row_by : Verb → List Word → Result Row ScriptCode
-row_by (verb.Step s) words = step_in s words >>= λ s. Ok (row.Step s)
+row_by (verb.Step s) words = and_then (step_in s words) (λ s. Ok (row.Step s))
 row_by verb.Begin words = alone row.Begin words
 row_by verb.End words = alone row.End words
 row_by verb.Undo words = alone (row.Act act.Undo) words

@@ -1,7 +1,10 @@
 -- What the reader has at a line, and what it takes there.
 use Rattle.std.specs.Prelude.{◌≡◌, ℕ, List, [], ◌∷◌, ◌++◌, Option, Some, None, Result, Ok, Err}
 use Rattle.dg_script.specs.declared.command.ScriptCode.{ScriptCode}
-use Rattle.dg_script.specs.declared.command.ScriptRefusal.{ScriptRefusal}
+use Rattle.dg_base.specs.declared.refusal.Refusal.{Refusal}
+use Rattle.dg_base.specs.declared.refusal.Refusal.TheVariants.{Because, NoMemory}
+use Rattle.dg_base.specs.Refusal.{Gives}
+use Rattle.dg_script.specs.declared.command.BadLine.{BadLine}
 use Rattle.dg_script.specs.declared.command.StepWords.{StepWords}
 use Rattle.dg_script.specs.declared.command.Act.TheVariants as act
 use Rattle.dg_script.specs.declared.command.Command.{Command}
@@ -9,7 +12,6 @@ use Rattle.dg_script.specs.declared.acts.Row.{Row}
 use Rattle.dg_script.specs.declared.acts.Row.TheVariants as row
 use Rattle.dg_script.specs.declared.reader.Block.{Block}
 use Rattle.dg_script.specs.declared.reader.Reader.{Reader}
-use Rattle.dg_script.specs.Gives.{FailsScript}
 use Rattle.dg_script.specs.Script.{Rest, rest_by}
 
 -- the line of the open block
@@ -23,8 +25,8 @@ behind_block None steps commands = commands
 behind_block (Some block) steps commands = record { line = block.line; act = act.Block (block.steps ++ steps) } ∷ commands
 
 -- what is read, and then the rest
-abbrev pub joined : Reader → Rest → Result (List Command) ScriptRefusal
-joined reader (Err refusal) = Err refusal
+abbrev pub joined : Reader → Rest → Result (List Command) BadLine
+joined reader (Err bad) = Err bad
 joined reader (Ok found) = Ok (reader.commands ++ behind_block reader.block found.0 found.1)
 
 abbrev pub closed : Option Block → List Command
@@ -45,7 +47,13 @@ taken reader number row.End = record { commands = reader.commands ++ closed read
 taken reader number (row.Act a) =
     record { commands = (reader.commands ++ closed reader.block) ++ record { line = number; act = a } ∷ []; block = None }
 
+-- the refusal of a line is the script's
+abbrev pub at_line : ℕ → Refusal ScriptCode → Refusal BadLine
+at_line number (Because code) = Because (record { line = number; code = code })
+at_line number NoMemory = NoMemory
+
 -- the line is read, or it is why the script isn't, whatever follows it
-abbrev pub Reads : Result (Unit {0}) ScriptRefusal → Reader → Reader → ℕ → Result Row ScriptCode → Type 0
+abbrev pub Reads : Result (Unit {0}) (Refusal BadLine) → Reader → Reader → ℕ → Result Row ScriptCode → Type 0
 Reads (Ok _) old new number read = (rest : Option ℕ → Rest) → joined new (rest (line_of new.block)) ≡ joined old (rest_by number (line_of old.block) read rest)
-Reads (Err refusal) old new number read = (rest : Option ℕ → Rest) → FailsScript refusal (joined old (rest_by number (line_of old.block) read rest))
+Reads (Err refusal) old new number read =
+    (rest : Option ℕ → Rest) → Gives {X = List Command} (λ commands. commands) (Err refusal) (joined old (rest_by number (line_of old.block) read rest))

@@ -4,8 +4,7 @@ use Rattle.std.specs.List.{slice_split}
 use Rattle.std.specs.Str.{chars, is_utf8}
 use Rattle.dg_script.specs.declared.command.ScriptCode.{ScriptCode}
 use Rattle.dg_script.specs.declared.command.ScriptCode.TheVariants as code
-use Rattle.dg_script.specs.declared.command.ScriptRefusal.{ScriptRefusal}
-use Rattle.dg_script.specs.declared.command.ScriptRefusal.TheVariants.{Bad}
+use Rattle.dg_script.specs.declared.command.BadLine.{BadLine}
 use Rattle.dg_script.specs.declared.command.StepWords.{StepWords}
 use Rattle.dg_script.specs.declared.command.Act.{Act}
 use Rattle.dg_script.specs.declared.command.Act.TheVariants as act
@@ -57,26 +56,26 @@ row_at inside line = cond (is_utf8 line) (row_of_text inside line) (Err code.Utf
 
 -- the steps that are left of an open block, and the commands behind it
 abbrev pub Rest : Type 0
-Rest = Result (List StepWords × List Command) ScriptRefusal
+Rest = Result (List StepWords × List Command) BadLine
 
 -- a command outside a block
 abbrev pub command_before : ℕ → Act → Rest → Rest
-command_before line a (Err refusal) = Err refusal
+command_before line a (Err bad) = Err bad
 command_before line a (Ok found) = Ok ([], record { line = line; act = a } ∷ found.1)
 
 -- a step of a block
 abbrev pub step_before : StepWords → Rest → Rest
-step_before step (Err refusal) = Err refusal
+step_before step (Err bad) = Err bad
 step_before step (Ok found) = Ok (step ∷ found.0, found.1)
 
 -- the steps up to the `end` are one command
 abbrev pub block_before : ℕ → Rest → Rest
-block_before line (Err refusal) = Err refusal
+block_before line (Err bad) = Err bad
 block_before line (Ok found) = Ok ([], record { line = line; act = act.Block found.0 } ∷ found.1)
 
 -- behind the `end` no step is left
 abbrev pub outside : Rest → Rest
-outside (Err refusal) = Err refusal
+outside (Err bad) = Err bad
 outside (Ok found) = Ok ([], found.1)
 
 -- a line's number, which stays where it would pass the numbers of 32 bits
@@ -90,7 +89,7 @@ step_at line (Some begun) step rest = step_before step (rest (Some begun))
 
 -- a line, and then those behind it
 abbrev pub rest_by : ℕ → Option ℕ → Result Row ScriptCode → (Option ℕ → Rest) → Rest
-rest_by line block (Err code) rest = Err (Bad line code)
+rest_by line block (Err c) rest = Err (record { line = line; code = c })
 rest_by line block (Ok row.Nothing) rest = rest block
 rest_by line block (Ok row.Begin) rest = block_before line (rest (Some line))
 rest_by line block (Ok row.End) rest = outside (rest None)
@@ -99,16 +98,16 @@ rest_by line block (Ok (row.Act a)) rest = command_before line a (rest None)
 
 abbrev pub ended : Option ℕ → Rest
 ended None = Ok ([], [])
-ended (Some begun) = Err (Bad begun code.OpenBlock)
+ended (Some begun) = Err (record { line = begun; code = code.OpenBlock })
 
 abbrev pub rest_of : List (List ℕ) → ℕ → Option ℕ → Rest
 rest_of [] line block = ended block
 rest_of (l ∷ ls) line block = rest_by line block (row_at (is_some block) (without_return l)) (rest_of ls (next_line line))
 
-abbrev pub commands_of : Rest → Result (List Command) ScriptRefusal
-commands_of (Err refusal) = Err refusal
+abbrev pub commands_of : Rest → Result (List Command) BadLine
+commands_of (Err bad) = Err bad
 commands_of (Ok found) = Ok found.1
 
 -- the commands of a script, or its first bad line and the first code that fits it
-abbrev pub script_in : List ℕ → Result (List Command) ScriptRefusal
+abbrev pub script_in : List ℕ → Result (List Command) BadLine
 script_in bytes = commands_of (rest_of (lines_in bytes) 1 None)

@@ -1,6 +1,5 @@
 //! What a script says.
 use dg_base::{Datum, Kind, PType, Str};
-use thiserror::Error;
 
 /// The commands of a script, in their order. Contracts see the list.
 pub type Script = sqlite_items::Items<Command>;
@@ -83,12 +82,10 @@ pub enum ScriptCode {
     OpenBlock,
 }
 
-/// Why a script isn't read.
-#[derive(Debug, Clone, Copy, PartialEq, Eq, Error)]
-pub enum ScriptRefusal {
-    /// The first line that is bad, from 1, and why. A line number above `u32::MAX` is given as that.
-    #[error("a bad line of the script")]
-    Bad { line: u32, code: ScriptCode },
-    #[error("out of memory")]
-    NoMemory,
+/// The first line of a script that is no command, from 1, and why. A line number above `u32::MAX` is
+/// given as that.
+#[derive(Debug, Clone, Copy, PartialEq, Eq)]
+pub struct BadLine {
+    pub line: u32,
+    pub code: ScriptCode,
 }

@@ -1,15 +1,14 @@
 //! The lines of a script, and what one line is.
-ghost use Rattle.std.specs.Prelude.{◌≡◌, List, map, cond, IfOk, Some, None};
+ghost use Rattle.std.specs.Prelude.{◌≡◌, List, map, IfOk};
 ghost use Rattle.std.specs.List.{slice_split};
-ghost use Rattle.std.specs.Option.{option_map};
-ghost use Rattle.std.specs.Str.{chars, is_utf8};
-ghost use Rattle.dg_script.specs.Gives.{Gives};
+ghost use Rattle.dg_base.specs.Refusal.{Gives};
 ghost use Rattle.dg_script.specs.Script.{is_line_feed, without_empty_end, lines_in, without_return, is_comment, row_of_words, row_at, row_of_text};
 
 use crate::acts::{Row, read_row};
 use crate::command::ScriptCode;
-use crate::refusal::LineRefusal;
 use crate::words::{is_blank_byte, words_of};
+use dg_base::Refusal;
+use dg_text::text_of;
 use std::alloc::{AllocError, Global};
 
 const MOST_BYTES: usize = 65_536;
@@ -43,12 +42,16 @@ fn parts_of_script(alloc: Global, bytes: &[u8]) -> Result<Vec<&[u8]>, AllocError
 }
 
 /// What a line is, inside a block or outside. One carriage return at its end is dropped.
-pub(crate) fn read_line(alloc: Global, inside: bool, line: &[u8]) -> Result<Row, LineRefusal>
-    ensures { Gives result (row_at inside (without_return line.now)) }
+pub(crate) fn read_line(
+    alloc: Global,
+    inside: bool,
+    line: &[u8],
+) -> Result<Row, Refusal<ScriptCode>>
+    ensures { Gives (λ x. x) result (row_at inside (without_return line.now)) }
 {
     match text_of(without_return(line)) {
         Some(text) => read_text(alloc, inside, text),
-        None => Err(LineRefusal::Bad(ScriptCode::Utf8)),
+        None => Err(Refusal::Because(ScriptCode::Utf8)),
     }
 }
 
@@ -61,27 +64,18 @@ fn without_return(line: &[u8]) -> &[u8]
     }
 }
 
-fn text_of(line: &[u8]) -> Option<&str>
-    ensures { option_map (λ t. t.now) result ≡ cond (is_utf8 line.now) (Some line.now) None }
-{
-    match str::from_utf8(line) {
-        Ok(text) => Some(text),
-        Err(_) => None,
-    }
-}
-
-fn read_text(alloc: Global, inside: bool, line: &str) -> Result<Row, LineRefusal>
-    ensures { Gives result (row_of_text inside line.now) }
+fn read_text(alloc: Global, inside: bool, line: &str) -> Result<Row, Refusal<ScriptCode>>
+    ensures { Gives (λ x. x) result (row_of_text inside line.now) }
 {
     if MOST_BYTES < line.len() {
-        return Err(LineRefusal::Bad(ScriptCode::TooLong));
+        return Err(Refusal::Because(ScriptCode::TooLong));
     }
     if is_comment(line.as_bytes()) {
         return Ok(Row::Nothing);
     }
     match words_of(alloc, line)? {
         Some(words) => read_row(alloc, inside, words.as_slice()),
-        None => Err(LineRefusal::Bad(ScriptCode::Value)),
+        None => Err(Refusal::Because(ScriptCode::Value)),
     }
 }
 

@@ -2,9 +2,10 @@
 ghost use Rattle.std.specs.Prelude.{◌≡◌, ◌++◌, ◌∷◌, [], List, Option, Some, None, OnOk, Result, is_some};
 
 use crate::acts::Row;
-use crate::command::{Act, BlockSteps, Command, Script, ScriptCode, ScriptRefusal, StepWords};
+use crate::command::{Act, BadLine, BlockSteps, Command, Script, ScriptCode, StepWords};
 use crate::lines::read_line;
-use crate::refusal::{LineRefusal, at_line};
+use crate::refusal::at_line;
+use dg_base::Refusal;
 use std::alloc::{AllocError, Global};
 
 /// The block that isn't closed yet, and the line of its `begin`.
@@ -22,7 +23,7 @@ pub(crate) struct Reader {
 }
 
 impl Reader {
-    ghost use Rattle.dg_script.specs.Gives.{GivesScript, Gives};
+    ghost use Rattle.dg_base.specs.Refusal.{Gives};
     ghost use Rattle.dg_script.specs.Script.{row_at, without_return, rest_by, ended};
     ghost use Rattle.dg_script.specs.Reader.{joined, line_of, closed, taken, step_taken, Reads};
 
@@ -41,7 +42,7 @@ impl Reader {
         alloc: Global,
         number: u32,
         line: &[u8],
-    ) -> Result<(), ScriptRefusal>
+    ) -> Result<(), Refusal<BadLine>>
         ensures { Reads result self.old self.new number (row_at (is_some self.old.block) (without_return line.now)) }
     {
         let inside = self.block.is_some();
@@ -51,13 +52,13 @@ impl Reader {
         }
     }
 
-    fn take_row(&mut self, alloc: Global, number: u32, row: Row) -> Result<(), ScriptRefusal>
+    fn take_row(&mut self, alloc: Global, number: u32, row: Row) -> Result<(), Refusal<BadLine>>
         ensures ok { OnOk result (self.new ≡ taken self.old number row) }
-        ensures err { Rattle.std.specs.Prelude.IfErr result (λ e. e ≡ ScriptRefusal.NoMemory) }
+        ensures err { Rattle.std.specs.Prelude.IfErr result (λ e. e ≡ Refusal.NoMemory) }
     {
         match self.take(alloc, number, row) {
             Ok(()) => Ok(()),
-            Err(_) => Err(ScriptRefusal::NoMemory),
+            Err(_) => Err(Refusal::NoMemory),
         }
     }
 
@@ -117,16 +118,16 @@ impl Reader {
     }
 
     /// The commands, where no block is open.
-    pub(crate) fn finish(self) -> Result<Script, ScriptRefusal>
-        ensures { GivesScript result (joined self (ended (line_of self.block))) }
+    pub(crate) fn finish(self) -> Result<Script, Refusal<BadLine>>
+        ensures { Gives (λ x. x) result (joined self (ended (line_of self.block))) }
     {
         let Reader { commands, block } = self;
         match block {
             None => Ok(commands),
-            Some(block) => Err(ScriptRefusal::Bad {
+            Some(block) => Err(Refusal::Because(BadLine {
                 line: block.line,
                 code: ScriptCode::OpenBlock,
-            }),
+            })),
         }
     }
 }

@@ -1,4 +1,6 @@
-use crate::{Command, ScriptCode, ScriptRefusal, read_script};
+//! Scripts, and what they are read as.
+use crate::{BadLine, Command, ScriptCode, read_script};
+use dg_base::Refusal;
 use std::alloc::{AllocError, Global};
 use std::test::Fail;
 
@@ -211,7 +213,7 @@ fn first_other(alloc: Global, cases: &[(&str, &str)]) -> Result<usize, AllocErro
 fn is_refused(alloc: Global, script: &[u8], line: u32, code: ScriptCode) -> bool {
     match read_script(alloc, script) {
         Ok(_) => false,
-        Err(refusal) => refusal == ScriptRefusal::Bad { line, code },
+        Err(refusal) => refusal == Refusal::Because(BadLine { line, code }),
     }
 }
 

@@ -2,8 +2,6 @@
 ghost use Rattle.std.specs.Prelude.{◌≡◌};
 ghost use Rattle.dg_script.specs.Acts.{step_named, asking_named, other_named, verb_named};
 
-use crate::forms::is_word;
-
 /// A command that is a step of a transaction.
 #[derive(Debug, Clone, Copy)]
 pub(crate) enum StepVerb {
@@ -34,7 +32,7 @@ pub(crate) enum Verb {
 }
 
 /// The command that a word names.
-pub(crate) fn verb_named(text: &[u8]) -> Option<Verb>
+pub(crate) fn verb_named(text: &str) -> Option<Verb>
     ensures { result ≡ verb_named text.now }
 {
     match step_named(text) {
@@ -43,62 +41,44 @@ pub(crate) fn verb_named(text: &[u8]) -> Option<Verb>
     }
 }
 
-fn step_named(text: &[u8]) -> Option<StepVerb>
+fn step_named(text: &str) -> Option<StepVerb>
     ensures { result ≡ step_named text.now }
 {
-    if is_word(text, b"make") {
-        Some(StepVerb::Make)
-    } else if is_word(text, b"override") {
-        Some(StepVerb::Override)
-    } else if is_word(text, b"set") {
-        Some(StepVerb::Set)
-    } else if is_word(text, b"clear") {
-        Some(StepVerb::Clear)
-    } else if is_word(text, b"delete") {
-        Some(StepVerb::Delete)
-    } else if is_word(text, b"defective") {
-        Some(StepVerb::Defective)
-    } else if is_word(text, b"connect") {
-        Some(StepVerb::Connect)
-    } else if is_word(text, b"disconnect") {
-        Some(StepVerb::Disconnect)
-    } else {
-        None
+    match text {
+        "make" => Some(StepVerb::Make),
+        "override" => Some(StepVerb::Override),
+        "set" => Some(StepVerb::Set),
+        "clear" => Some(StepVerb::Clear),
+        "delete" => Some(StepVerb::Delete),
+        "defective" => Some(StepVerb::Defective),
+        "connect" => Some(StepVerb::Connect),
+        "disconnect" => Some(StepVerb::Disconnect),
+        _ => None,
     }
 }
 
-fn other_named(text: &[u8]) -> Option<Verb>
+fn other_named(text: &str) -> Option<Verb>
     ensures { result ≡ other_named text.now }
 {
-    if is_word(text, b"begin") {
-        Some(Verb::Begin)
-    } else if is_word(text, b"end") {
-        Some(Verb::End)
-    } else if is_word(text, b"undo") {
-        Some(Verb::Undo)
-    } else if is_word(text, b"redo") {
-        Some(Verb::Redo)
-    } else {
-        asking_named(text)
+    match text {
+        "begin" => Some(Verb::Begin),
+        "end" => Some(Verb::End),
+        "undo" => Some(Verb::Undo),
+        "redo" => Some(Verb::Redo),
+        _ => asking_named(text),
     }
 }
 
-fn asking_named(text: &[u8]) -> Option<Verb>
+fn asking_named(text: &str) -> Option<Verb>
     ensures { result ≡ asking_named text.now }
 {
-    if is_word(text, b"pin") {
-        Some(Verb::Pin)
-    } else if is_word(text, b"drop") {
-        Some(Verb::Drop)
-    } else if is_word(text, b"ask") {
-        Some(Verb::Ask)
-    } else if is_word(text, b"build") {
-        Some(Verb::Build)
-    } else if is_word(text, b"alias") {
-        Some(Verb::Alias)
-    } else if is_word(text, b"evict") {
-        Some(Verb::Evict)
-    } else {
-        None
+    match text {
+        "pin" => Some(Verb::Pin),
+        "drop" => Some(Verb::Drop),
+        "ask" => Some(Verb::Ask),
+        "build" => Some(Verb::Build),
+        "alias" => Some(Verb::Alias),
+        "evict" => Some(Verb::Evict),
+        _ => None,
     }
 }

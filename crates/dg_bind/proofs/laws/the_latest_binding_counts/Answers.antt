@@ -1,4 +1,4 @@
-use Rattle.dg_bind.proofs.Latest.{latest, others}
+use Rattle.dg_bind.proofs.LatestBinding.{latest, others}
 use Rattle.dg_bind.proofs.laws.the_latest_binding_counts.Goals as goal
 
 pub returns-clause-latest : goal.returns-clause-latest

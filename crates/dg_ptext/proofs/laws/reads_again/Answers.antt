@@ -1,4 +1,4 @@
-use Rattle.dg_ptext.proofs.Again as again
+use Rattle.dg_ptext.proofs.ReadBack as again
 use Rattle.dg_ptext.proofs.laws.reads_again.Goals as goal
 
 pub returns : goal.returns

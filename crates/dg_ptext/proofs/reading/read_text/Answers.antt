@@ -1,7 +1,7 @@
 use Rattle.std.proofs.Common.{◌∙◌, sym}
 use Rattle.dg_ptext.specs.Token.{tokens}
 use Rattle.dg_ptext.specs.Reading.{run, start, end}
-use Rattle.dg_ptext.proofs.States.{gives_error, gives_same}
+use Rattle.dg_ptext.proofs.Refusals.{gives_error, gives_same}
 use Rattle.dg_ptext.proofs.Strings.{rest_from}
 use Rattle.dg_ptext.proofs.Tokens.{refused_piece, told_piece, run-end}
 use Rattle.dg_ptext.proofs.reading.read_text.Goals as goal

@@ -1,8 +1,8 @@
 use Rattle.std.proofs.Common.{Ok}
 use Rattle.dg_ptext.specs.Reading.{reading}
-use Rattle.dg_ptext.proofs.States.{gives_same}
-use Rattle.dg_ptext.proofs.Grammar.{reading-spelled}
-use Rattle.dg_ptext.proofs.Sound.{spelled-given}
+use Rattle.dg_ptext.proofs.Refusals.{gives_same}
+use Rattle.dg_ptext.proofs.SpelledIsRead.{reading-spelled}
+use Rattle.dg_ptext.proofs.ReadIsSpelled.{spelled-given}
 use Rattle.dg_ptext.proofs.reading.read_tree.Goals as goal
 
 pub returns-clause-found : goal.returns-clause-found

@@ -2,7 +2,7 @@ use Rattle.std.proofs.Common.{refl, ◌∙◌}
 use Rattle.std.specs.Fmt.{digits}
 use Rattle.dg_decimal.specs.Canonical.{fraction_digits}
 use Rattle.dg_report.specs.Parts.{name_of, number_text}
-use Rattle.dg_report.specs.Quoted.{escaped}
+use Rattle.dg_text.specs.Quoted.{escaped}
 use Rattle.dg_report.specs.Worked.{one_name}
 use Rattle.dg_report.proofs.Rows.{text-List, text-Rec}
 use Rattle.dg_report.proofs.worked.prints_values.Goals as goal

@@ -1,5 +1,0 @@
-use Rattle.dg_report.proofs.ReadBack.{quoted_apart}
-use Rattle.dg_report.proofs.laws.quoted_apart.Goals as goal
-
-pub returns : goal.returns
-returns c = quoted_apart c.args.text.now c.args.other.now c.utf8.text c.utf8.other
