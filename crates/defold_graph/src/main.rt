@@ -11,16 +11,13 @@ mod tests;
 
 use dg_base::Steps;
 use dg_files::{DirFiles, StdSink};
-use dg_tool::run_alone;
+use dg_tool::{Status, run_alone};
 use std::env;
 use std::io::ErrorKind;
 use std::marker::Brand;
 use std::process::ExitCode;
 use std::rt::{Env, Files};
 use std::sync::ledger::{Blank, Ledger};
-
-// What a run that can't begin ends with.
-const NO_MEMORY: u8 = 6;
 
 fn main(rt: HostRuntime) -> ExitCode {
     ExitCode::from(status_of::<Brand, HostRuntime>(rt, Blank::new(1)))
@@ -37,12 +34,14 @@ fn status_of<L: Ledger, R: Files + Env + Print + AllocGlobal + Copy>(rt: R, blan
         Ok(all) => all.skip(1).collect(alloc),
         // A word that isn't UTF-8 is none of the words that there are.
         Err(error) if error.kind() == ErrorKind::InvalidData => Ok(Vec::new(alloc)),
-        Err(_) => return NO_MEMORY,
+        Err(_) => return Status::NoMemory.code(),
     };
     let (Ok(words), Ok(root)) = (words, String::from_str(alloc, ".")) else {
-        return NO_MEMORY;
+        return Status::NoMemory.code();
     };
     let mut files = DirFiles::new(rt, root);
     let mut out = StdSink::new(rt);
-    run_alone(alloc, words.as_slice(), &mut files, &mut out, &mut steps).status
+    run_alone(alloc, words.as_slice(), &mut files, &mut out, &mut steps)
+        .status
+        .code()
 }

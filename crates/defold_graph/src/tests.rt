@@ -26,7 +26,9 @@ fn status_in<L: Ledger, R: rt::Files + AllocGlobal + Copy>(
 {
     let mut steps = Steps::<L>::open(blank);
     let mut files = DirFiles::new(rt, root);
-    run_alone(rt.alloc(), words, &mut files, out, &mut steps).status
+    run_alone(rt.alloc(), words, &mut files, out, &mut steps)
+        .status
+        .code()
 }
 
 fn played(rt: HostRuntime, words: &[String], root: String, out: &mut MemSink) -> u8 {

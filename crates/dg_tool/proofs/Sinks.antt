@@ -5,7 +5,8 @@ use Rattle.std.proofs.lemmas.List.{take-append-drop, take-append-le, take_min, a
 use Rattle.std.proofs.lemmas.Grind.{take_at_read}
 use Rattle.std.specs.Prelude.{Result, Ok, Err, OnErr}
 use Rattle.std.specs.Option.{option_map}
-use Rattle.dg_tool.specs.Out.{text_of}
+use Rattle.dg_files.specs.Outcome.{StaysSound}
+use Rattle.dg_tool.specs.Text.{text_of}
 use Rattle.dg_tool.specs.Printed.{GotAll, GotPrefix}
 
 -- one text behind another
@@ -63,3 +64,8 @@ put_within xs i n le within = omega (arith, ap length (tail_of xs i), length-dro
 pub OnErr-always : {T E P : Type 0} (r : Result T E) → P → OnErr r P
 OnErr-always (Ok x) p = tt
 OnErr-always (Err e) p = p
+
+-- what never fails goes on so over two calls
+pub stays_sound : {S : Type 0} (is_sound : S → Type 0) (faults : S → ℕ) (before between after : S) → StaysSound is_sound faults before between →
+    StaysSound is_sound faults between after → StaysSound is_sound faults before after
+stays_sound is_sound faults before between after a b sound = let first = a sound in let then = b first.0 in (then.0, then.1 ∙ first.1)

@@ -1,109 +1,106 @@
--- What the tool does for a tree and the words of its command line: its status and the lines that it
--- prints. It has no cache and no worker.
-use Rattle.std.specs.Prelude.{ℕ, List, [], ◌∷◌, ◌++◌, Bool, false, cond, not, ◌&&◌, ◌==◌, nat_lt, Option, Some, None, Result, Ok, Err, codes, length}
-use Rattle.std.specs.List.{slice_split, list_all}
+-- What the tool does for a tree of files and the words of its command line. It has no cache and no
+-- worker.
+use Rattle.std.specs.Prelude.{ℕ, List, [], ◌∷◌, Bool, cond, nat_lt, Option, Some, None, Result, Ok, Err, codes, length, map, flat_map, fold}
 use Rattle.dg_base.specs.Tables.{Tables}
-use Rattle.dg_files.specs.Tree.{Tree, bytes_at, got_of}
-use Rattle.dg_files.specs.declared.files.Got.{Got}
-use Rattle.dg_files.specs.declared.files.Got.TheVariants as got
-use Rattle.dg_script.specs.declared.command.Command.{Command}
-use Rattle.dg_script.specs.declared.command.ScriptRefusal.{ScriptRefusal}
-use Rattle.dg_script.specs.declared.command.ScriptRefusal.TheVariants as refusal
-use Rattle.dg_script.specs.Forms.{is_word}
-use Rattle.dg_script.specs.Script.{lines_in, script_in}
-use Rattle.dg_tool.specs.declared.output.Out.{Out}
-use Rattle.dg_tool.specs.Text.{bad_line_text}
-use Rattle.dg_tool.specs.Play.{start, lines_from}
+use Rattle.dg_base.specs.Graph.{Graph, empty}
+use Rattle.dg_base.specs.Refusal.{and_then}
+use Rattle.dg_base.specs.Value.{value_at}
+use Rattle.dg_files.specs.Tree.{File, Tree, written}
+use Rattle.dg_report.specs.Text.{answer_text}
+use Rattle.dg_tool.specs.declared.status.Status.{Status}
+use Rattle.dg_tool.specs.declared.status.Status.TheVariants as status
+use Rattle.dg_tool.specs.declared.halt.Halt.{Halt}
+use Rattle.dg_tool.specs.declared.halt.Halt.TheVariants as halt
+use Rattle.dg_tool.specs.declared.halt.Limit.TheVariants as limit
+use Rattle.dg_tool.specs.declared.words.Task.{Task}
+use Rattle.dg_tool.specs.declared.words.Task.TheVariants.{Run}
+use Rattle.dg_tool.specs.Text.{ok_text, empty_text, no_name_text, no_label_text, missing_text, code_text, refused_text, not_built_text, line_of, text_of}
+use Rattle.dg_tool.specs.Halts.{status_of, halt_lines, error_line}
+use Rattle.dg_tool.specs.Words.{task_of}
+use Rattle.dg_tool.specs.Play.{Ask, Reply, Done, Empty, NoName, NoLabel, Misses, Refused, NotBuilt, Waits, Line, Played, played}
+use Rattle.dg_tool.specs.Input.{script_of, loaded}
 
--- a project path begins with a slash, and what stands behind each of its slashes, up to the next one
--- or the end, is not empty, not one point and not two points
-abbrev pub is_slash : ℕ → Bool
-is_slash b = b == 47
+-- all that a run does: its status, the lines that it prints, the files that it writes, each with the
+-- number of the line whose command writes it, the last graph, and the answers that were asked for
+pub record Written : Type 0 where
+  pub line : ℕ
+  pub file : File
 
-abbrev pub is_segment : List ℕ → Bool
-is_segment s = not (is_word s []) && (not (is_word s (codes ".")) && not (is_word s (codes "..")))
+pub record Out : Type 0 where
+  pub status : Status
+  pub lines : List (List ℕ)
+  pub files : List Written
+  pub last : Graph
+  pub asks : List Ask
 
-abbrev pub are_segments : List (List ℕ) → Bool
-are_segments [] = false
-are_segments (before ∷ segments) = (is_word before [] && not (length segments == 0)) && list_all is_segment segments
+-- a run that ends before a script is played
+abbrev pub halted : Halt → Out
+halted h = record { status = status_of h; lines = halt_lines h; files = []; last = empty; asks = [] }
 
-abbrev pub is_project_path : List ℕ → Bool
-is_project_path path = are_segments (slice_split is_slash path)
-
--- the words are: run SCRIPT --workers 0
-abbrev pub script_named : List (List ℕ) → Option (List ℕ)
-script_named (task ∷ script ∷ option ∷ number ∷ []) =
-    cond ((is_word task (codes "run") && is_project_path script) && (is_word option (codes "--workers") && is_word number (codes "0")))
-    (Some script) None
-script_named _ = None
-
--- the one line of an error
-abbrev pub error_line : List ℕ → List ℕ
-error_line what = codes "error: " ++ what ++ 10 ∷ []
-
-abbrev pub error_out : ℕ → List ℕ → Out
-error_out status what = record { status = status; lines = error_line what ∷ [] }
-
+-- words that say no task
 abbrev pub usage : Out
-usage = error_out 1 (codes "usage")
+usage = record { status = status.Usage; lines = error_line (codes "usage") ∷ []; files = []; last = empty; asks = [] }
 
-abbrev pub no_input : Out
-no_input = error_out 2 (codes "no input")
+-- the text of an answer: the value of the endpoint by plain evaluation
+abbrev pub ask_text : Tables → List (List ℕ) → Ask → List ℕ
+ask_text t names a = answer_text (value_at t a.graph a.at) names
 
-abbrev pub not_built : Out
-not_built = error_out 3 (codes "not built")
+abbrev pub reply_text : Tables → List (List ℕ) → Reply → List ℕ
+reply_text t names Done = ok_text
+reply_text t names Empty = empty_text
+reply_text t names NoName = no_name_text
+reply_text t names NoLabel = no_label_text
+reply_text t names (Misses step missing) = refused_text step (missing_text missing)
+reply_text t names (Refused step code) = refused_text step (code_text code)
+reply_text t names NotBuilt = not_built_text
+reply_text t names (Waits a) = ask_text t names a
 
--- a script has at most 1 MiB and 65,536 lines
-abbrev pub max_script : ℕ
-max_script = 1048576
+abbrev pub line_text : Tables → List (List ℕ) → Line → List ℕ
+line_text t names line = line_of line.number (reply_text t names line.reply)
 
-abbrev pub max_lines : ℕ
-max_lines = 65536
-
-abbrev pub large_script : Out
-large_script = error_out 7 (codes "too large script")
-
-abbrev pub large_lines : Out
-large_lines = error_out 7 (codes "too large lines")
-
--- all lines, one behind the other
-abbrev pub text_of : List (List ℕ) → List ℕ
-text_of [] = []
-text_of (line ∷ lines) = line ++ text_of lines
+-- the answers that a reply waits for
+abbrev pub asks_in : Reply → List Ask
+asks_in (Waits a) = a ∷ []
+asks_in _ = []
 
 -- all that is printed has at most 256 MiB, line feeds included
 abbrev pub max_text : ℕ
 max_text = 268435456
 
-abbrev pub large_text : Out
-large_text = error_out 7 (codes "too large text")
-
 abbrev pub is_large : List (List ℕ) → Bool
 is_large lines = nat_lt max_text (length (text_of lines))
 
-abbrev pub out_of_lines : Option (List (List ℕ)) → Out
-out_of_lines None = not_built
-out_of_lines (Some lines) = cond (is_large lines) large_text (record { status = 0; lines = lines })
+abbrev pub done : Played → List (List ℕ) → Out
+done p lines = record {
+  status = status.Done;
+  lines = lines;
+  files = [];
+  last = p.state.graph;
+  asks = flat_map (λ line. asks_in line.reply) p.lines;
+}
 
--- a script that isn't in the grammar has a bad line; want of memory is nothing that is read
-abbrev pub out_of_read : Tables → Result (List Command) ScriptRefusal → Out
-out_of_read t (Err (refusal.Bad line code)) = error_out 3 (bad_line_text line code)
-out_of_read t (Err refusal.NoMemory) = not_built
-out_of_read t (Ok commands) = out_of_lines (lines_from t commands start)
+abbrev pub out_of_lines : Played → List (List ℕ) → Out
+out_of_lines p lines = cond (is_large lines) (halted (halt.TooLarge limit.Text)) (done p lines)
 
--- the number of lines is looked at before the grammar
-abbrev pub out_of_bytes : Tables → List ℕ → Out
-out_of_bytes t bytes = cond (nat_lt max_lines (length (lines_in bytes))) large_lines (out_of_read t (script_in bytes))
+-- a script that was played. Its lines are printed with the names of the end: a label's name, once given,
+-- never changes, and what is in a graph was named before
+abbrev pub out_of_played : Tables → Played → Out
+out_of_played t p = out_of_lines p (map (line_text t p.state.names) p.lines)
 
--- what the script's path has, and whether it is longer than a script may be
-abbrev pub out_of_got : Tables → Got → Out
-out_of_got t got.Absent = no_input
-out_of_got t got.Longer = large_script
-out_of_got t (got.Whole bytes) = out_of_bytes t bytes
+abbrev pub played_in : Tables → Tree → Task → Result Played Halt
+played_in t tree (Run script) = and_then (script_of tree script) (λ commands. and_then (loaded tree) (λ state. Ok (played t commands state)))
 
-abbrev pub out_of_script : Tables → Tree → Option (List ℕ) → Out
-out_of_script t tree None = usage
-out_of_script t tree (Some script) = out_of_got t (got_of (bytes_at tree script) max_script)
+abbrev pub out_of_result : Tables → Result Played Halt → Out
+out_of_result t (Ok p) = out_of_played t p
+out_of_result t (Err h) = halted h
+
+abbrev pub out_of_task : Tables → Tree → Option Task → Out
+out_of_task t tree None = usage
+out_of_task t tree (Some task) = out_of_result t (played_in t tree task)
 
 abbrev pub out_of : Tables → Tree → List (List ℕ) → Out
-out_of t tree words = out_of_script t tree (script_named words)
+out_of t tree words = out_of_task t tree (task_of words)
+
+-- the tree after all files of a run were written, in order
+abbrev pub all_written : List Written → Tree → Tree
+all_written files tree = fold (λ t w. written t w.file.path w.file.bytes) tree files

@@ -1,44 +1,59 @@
 -- What a run leaves, against what is due: the output of the definitions for the words and the tree.
-use Rattle.std.specs.Prelude.{◌≡◌, ◌≤◌, ◌⊎◌, ℕ, List, Option}
+use Rattle.std.specs.Prelude.{◌≡◌, ◌≤◌, ◌⊎◌, ℕ, List, [], Option, Result, Ok, Err}
+use Rattle.std.specs.Option.{option_map}
 use Rattle.dg_files.specs.Outcome.{Rose}
-use Rattle.dg_tool.specs.declared.output.Out.{Out}
-use Rattle.dg_tool.specs.Out.{text_of}
+use Rattle.dg_files.specs.Tree.{Tree}
+use Rattle.dg_tool.specs.declared.status.Status.{Status}
+use Rattle.dg_tool.specs.declared.status.Status.TheVariants as status
+use Rattle.dg_base.specs.declared.refusal.Refusal.{Refusal}
+use Rattle.dg_base.specs.declared.refusal.Refusal.TheVariants as refusal
+use Rattle.dg_tool.specs.declared.halt.Halt.{Halt}
+use Rattle.dg_tool.specs.declared.halt.Halt.TheVariants as halt
+use Rattle.dg_tool.specs.Text.{text_of}
+use Rattle.dg_tool.specs.Out.{Out, all_written, halted}
 use Rattle.dg_tool.specs.Printed.{GotAll, GotPrefix}
 
--- the statuses that a call of the outside, or want of memory, may end a run with
-abbrev pub file_fault : ℕ
-file_fault = 4
+-- the statuses that a call of the outside, or want of memory, may end a run with; each other one is due
+abbrev pub IsDue : Status → Type 0
+IsDue status.FileFault = ⊥
+IsDue status.SinkFault = ⊥
+IsDue status.NoMemory = ⊥
+IsDue _ = Unit {0}
 
-abbrev pub sink_fault : ℕ
-sink_fault = 5
-
-abbrev pub no_memory : ℕ
-no_memory = 6
-
--- each other status is one that is due
-abbrev pub IsDue : ℕ → Type 0
-IsDue status = (status ≤ 3) ⊎ (status ≡ 7)
-
--- such a status is the one that is due, and the sink has got all lines that are due, an error's one
--- line among them
-pub record IsDone (due : Out) (status : ℕ) (before now : Option (List ℕ)) : Type 0 where
-  pub status_due : status ≡ due.status
+-- such a status is the one that is due, the sink has got all lines that are due, an error's one line
+-- among them, and the tree has all files
+pub record IsDone (due : Out) (ended : Status) (tree_before tree_now : Option Tree) (before now : Option (List ℕ)) : Type 0 where
+  pub status_due : ended ≡ due.status
   pub lines_due : GotAll before now (text_of due.lines)
+  pub files_due : tree_now ≡ option_map (all_written due.files) tree_before
 
-pub record EndsAs (due : Out) (status : ℕ) (before now : Option (List ℕ)) : Type 0 where
-  pub done : IsDue status → IsDone due status before now
-  -- where a file's call failed, nothing was printed; else a first part of the text
-  pub files_failed : status ≡ file_fault → now ≡ before
-  pub cut_off : (status ≡ sink_fault) ⊎ (status ≡ no_memory) → GotPrefix before now (text_of due.lines)
+pub record EndsAs (due : Out) (ended : Status) (tree_before tree_now : Option Tree) (before now : Option (List ℕ)) : Type 0 where
+  pub done : IsDue ended → IsDone due ended tree_before tree_now before now
+  -- at a fault of the sink, or for want of memory, it has got a first part of the text
+  pub cut_off : (ended ≡ status.SinkFault) ⊎ (ended ≡ status.NoMemory) → GotPrefix before now (text_of due.lines)
 
 -- a fault's status comes only where that count of faults rose in the call, and no count falls
-pub record HasCauses (status files_before files_now out_before out_now : ℕ) : Type 0 where
+pub record HasCauses (ended : Status) (files_before files_now out_before out_now : ℕ) : Type 0 where
   pub files_never_fall : files_before ≤ files_now
   pub out_never_falls : out_before ≤ out_now
-  pub file_cause : status ≡ file_fault → Rose files_before files_now
-  pub sink_cause : status ≡ sink_fault → Rose out_before out_now
+  pub file_cause : ended ≡ status.FileFault → Rose files_before files_now
+  pub sink_cause : ended ≡ status.SinkFault → Rose out_before out_now
 
 -- where neither count rose, the status is the one that is due, or memory was wanted
-abbrev pub IsComplete : Out → ℕ → ℕ → ℕ → ℕ → ℕ → Type 0
-IsComplete due status files_before files_now out_before out_now =
-    ¬ Rose files_before files_now → ¬ Rose out_before out_now → (status ≡ due.status) ⊎ (status ≡ no_memory)
+abbrev pub IsComplete : Out → Status → ℕ → ℕ → ℕ → ℕ → Type 0
+IsComplete due ended files_before files_now out_before out_now =
+    ¬ Rose files_before files_now → ¬ Rose out_before out_now → (ended ≡ due.status) ⊎ (ended ≡ status.NoMemory)
+
+-- what is known before the first put: the lines of a run that is done, or what ends it before
+abbrev pub IsOutput : Result (List (List ℕ)) (Refusal Halt) → Out → Type 0
+IsOutput (Ok lines) due = (due.status ≡ status.Done) × (due.lines ≡ lines) × (due.files ≡ [])
+IsOutput (Err (refusal.Because halt.FileFault)) due = Unit {0}
+IsOutput (Err (refusal.Because h)) due = due ≡ halted h
+IsOutput (Err refusal.NoMemory) due = Unit {0}
+
+-- what a put of all lines ends with: the status that is due and all of them, or a fault of the sink or
+-- want of memory and a first part
+abbrev pub IsPut : Status → List (List ℕ) → Status → Option (List ℕ) → Option (List ℕ) → Type 0
+IsPut due lines ended before now =
+    ((ended ≡ due) × GotAll before now (text_of lines))
+    ⊎ (((ended ≡ status.SinkFault) ⊎ (ended ≡ status.NoMemory)) × GotPrefix before now (text_of lines))

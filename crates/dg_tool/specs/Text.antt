@@ -1,5 +1,5 @@
 -- The printed texts, beside those of answers.
-use Rattle.std.specs.Prelude.{ℕ, List, [], ◌∷◌, ◌++◌, codes}
+use Rattle.std.specs.Prelude.{ℕ, List, [], ◌∷◌, ◌++◌, codes, flat_map}
 use Rattle.std.specs.Fmt.{decimal}
 use Rattle.dg_base.specs.declared.step.TxCode.{TxCode}
 use Rattle.dg_base.specs.declared.step.TxCode.TheVariants as tx
@@ -19,6 +19,10 @@ no_name_text = codes "NoName"
 
 abbrev pub no_label_text : List ℕ
 no_label_text = codes "NoLabel"
+
+-- a command that isn't played yet
+abbrev pub not_built_text : List ℕ
+not_built_text = codes "not built"
 
 -- why a transaction is refused
 abbrev pub missing_text : Missing → List ℕ
@@ -57,3 +61,7 @@ bad_line_text line c = codes "script line " ++ decimal line ++ codes " " ++ bad_
 -- a line of the output: the number of the script's line, a colon, a blank and the text
 abbrev pub line_of : ℕ → List ℕ → List ℕ
 line_of number text = decimal number ++ codes ": " ++ text ++ 10 ∷ []
+
+-- all lines, one behind the other
+abbrev pub text_of : List (List ℕ) → List ℕ
+text_of lines = flat_map (λ line. line) lines

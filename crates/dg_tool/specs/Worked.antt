@@ -1,5 +1,23 @@
 -- Scripts of which the checker computes what they print.
-use Rattle.std.specs.Prelude.{ℕ, List, ◌∷◌, [], ◌++◌, codes}
+use Rattle.std.specs.Prelude.{◌≡◌, ℕ, List, ◌∷◌, [], ◌++◌, codes}
+use Rattle.dg_files.specs.Tree.{Tree}
+use Rattle.dg_kinds_go.specs.Go.{go_tables}
+use Rattle.dg_tool.specs.declared.status.Status.TheVariants as status
+use Rattle.dg_tool.specs.Out.{Out, out_of}
+
+-- a script at /e.txt, and the words that play it
+abbrev pub tree_with : List ℕ → Tree
+tree_with script = record { path = codes "/e.txt"; bytes = script } ∷ []
+
+abbrev pub run_words : List (List ℕ)
+run_words = codes "run" ∷ codes "/e.txt" ∷ codes "--workers" ∷ codes "0" ∷ []
+
+abbrev pub out_of_bytes : List ℕ → Out
+out_of_bytes script = out_of go_tables (tree_with script) run_words
+
+-- it is played to its end and prints these lines
+abbrev pub prints : List ℕ → List (List ℕ) → Type 0
+prints script lines = ((out_of_bytes script).status ≡ status.Done) × ((out_of_bytes script).lines ≡ lines)
 
 abbrev pub line : List ℕ → List ℕ
 line text = text ++ 10 ∷ []

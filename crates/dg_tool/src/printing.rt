@@ -1,16 +1,18 @@
 //! Lines and bytes that go to a sink.
 ghost use Rattle.std.specs.Prelude.{◌≡◌, ◌≤◌, OnOk, OnErr};
-ghost use Rattle.dg_files.specs.Outcome.{HasCause};
-ghost use Rattle.dg_tool.specs.Out.{text_of};
+ghost use Rattle.dg_files.specs.Outcome.{HasCause, StaysSound};
+ghost use Rattle.dg_tool.specs.Text.{text_of};
 ghost use Rattle.dg_tool.specs.Printed.{GotAll, GotPrefix};
 
-use dg_files::{Bytes, Refusal, Sink};
+use dg_base::Refusal;
+use dg_files::{Bytes, Failed, Sink};
 
 /// Puts each line, one after another. After a refusal the sink has got a first part of them.
-pub(crate) fn put_lines<S: Sink>(out: &mut S, lines: &[Bytes]) -> Result<(), Refusal>
+pub(crate) fn put_lines<S: Sink>(out: &mut S, lines: &[Bytes]) -> Result<(), Refusal<Failed>>
     ensures ok { OnOk result (GotAll (S.bytes out.old) (S.bytes out.new) (text_of lines.now)) }
     ensures err { OnErr result (GotPrefix (S.bytes out.old) (S.bytes out.new) (text_of lines.now)) }
     ensures cause { HasCause (S.faults out.old) (S.faults out.new) result }
+    ensures sound { StaysSound S.is_sound S.faults out.old out.new }
 {
     for line in lines {
         put_all(out, line.as_slice())?;
@@ -19,10 +21,11 @@ pub(crate) fn put_lines<S: Sink>(out: &mut S, lines: &[Bytes]) -> Result<(), Ref
 }
 
 /// Puts a piece, and what a put left again. After a refusal the sink has got a first part of it.
-pub(crate) fn put_all<S: Sink>(out: &mut S, piece: &[u8]) -> Result<(), Refusal>
+pub(crate) fn put_all<S: Sink>(out: &mut S, piece: &[u8]) -> Result<(), Refusal<Failed>>
     ensures ok { OnOk result (GotAll (S.bytes out.old) (S.bytes out.new) piece.now) }
     ensures err { OnErr result (GotPrefix (S.bytes out.old) (S.bytes out.new) piece.now) }
     ensures cause { HasCause (S.faults out.old) (S.faults out.new) result }
+    ensures sound { StaysSound S.is_sound S.faults out.old out.new }
 {
     let mut at = 0;
     while at < piece.len() {

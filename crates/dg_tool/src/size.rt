@@ -1,7 +1,6 @@
 //! The size of a script, and of what it prints.
 ghost use Rattle.std.specs.Prelude.{◌≡◌, ◌≤◌, ◌<◌, ◌+◌, length, count_by, MatchOption};
 ghost use Rattle.dg_script.specs.Script.{is_line_feed, lines_in};
-ghost use Rattle.dg_tool.specs.Out.{is_large};
 
 use dg_files::Bytes;
 
@@ -29,22 +28,8 @@ fn line_feeds(bytes: &[u8]) -> usize
     bytes.iter().filter(|b| **b == b'\n').count()
 }
 
-/// Whether lines have more bytes together than are printed.
-pub(crate) fn is_large(lines: &[Bytes]) -> bool
-    ensures { result ≡ is_large lines.now }
-{
-    let mut room = MAX_TEXT;
-    for line in lines {
-        let Some(left) = room_after(room, line) else {
-            return true;
-        };
-        room = left;
-    }
-    false
-}
-
-// What is left of the room behind a line, where the line fits.
-fn room_after(room: usize, line: &Bytes) -> Option<usize>
+/// What is left of the room behind a line, where the line fits.
+pub(crate) fn room_after(room: usize, line: &Bytes) -> Option<usize>
     ensures { MatchOption result (room < length line.now) (λ left. left + length line.now ≡ room) }
 {
     room.checked_sub(line.len())

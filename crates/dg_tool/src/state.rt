@@ -1,12 +1,12 @@
 //! What a script that is played has at a moment.
-ghost use Rattle.std.specs.Prelude.{◌≡◌, IfOk, OnOk};
-ghost use Rattle.dg_tool.specs.Play.{IsReady, start, bind_made};
+ghost use Rattle.std.specs.Prelude.{◌≡◌, [], OnOk};
+ghost use Rattle.dg_tool.specs.Play.{bind_made};
 
 use dg_base::{Names, NodeId, Str};
 use dg_bind::Bindings;
 use dg_kinds_go::GoKinds;
 use dg_view::Graph;
-use std::alloc::{AllocError, Global};
+use std::alloc::AllocError;
 
 /// The graph, the id of the next node, the names of nodes, and the interned names.
 #[derive(Drop)]
@@ -15,19 +15,6 @@ pub struct State {
     pub next: u32,
     pub bound: Bindings,
     pub names: Names,
-}
-
-/// No node and no name yet.
-pub(crate) fn start(alloc: Global) -> Result<State, AllocError>
-    ensures state { IfOk result (λ s. s ≡ start) }
-    ensures ready { IfOk result (λ s. IsReady s) }
-{
-    Ok(State {
-        graph: Graph::new(alloc)?,
-        next: 1,
-        bound: Bindings::new(alloc),
-        names: Names::new(alloc),
-    })
 }
 
 /// Binds each name to the node at its place.

@@ -116,7 +116,9 @@ fn status_of<L: Ledger>(
     requires some { 0 < blank.parts }
 {
     let mut steps = Steps::<L>::open(blank);
-    run_alone(alloc, words, files, out, &mut steps).status
+    run_alone(alloc, words, files, out, &mut steps)
+        .status
+        .code()
 }
 
 fn played(alloc: Global, words: &[String], files: &mut MemFiles, out: &mut MemSink) -> u8 {
@@ -152,8 +154,11 @@ fn the_first_script_ends_as_the_outside_lets_it(rt: HostRuntime) -> Result<(), F
         (4096, 0, 0, 0, FIRST_LINES),
         (1, 0, 0, 0, FIRST_LINES),
         (4096, 1, 0, 4, ""),
+        // Beside the one read of the script no call of the files is made, and no put beside those of the lines.
+        (4096, 2, 0, 0, FIRST_LINES),
         (4096, 0, 1, 5, ""),
         (4096, 0, 2, 5, "1: ok\n"),
+        (4096, 0, 9, 0, FIRST_LINES),
         (1, 0, 10, 5, "1: ok\n2: "),
     ] {
         let outside = Outside {

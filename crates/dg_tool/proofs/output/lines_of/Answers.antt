@@ -1,20 +1,44 @@
-use Rattle.std.proofs.Common.{◌≡◌, List, ℕ, [], ◌∷◌, ◌++◌, ◌+◌, Some, drop, ap, ◌∙◌, rules}
+use Rattle.std.proofs.Common.{◌≡◌, List, ℕ, map, Some, rules, refl, sym, ap, ◌∙◌, subst}
+use Rattle.std.specs.Prelude.{Ok, Err}
+use Rattle.std.proofs.lemmas.Option.{IfSome_then}
+use Rattle.dg_base.specs.declared.refusal.Refusal.TheVariants as refusal
 use Rattle.dg_kinds_go.specs.Go.{go_tables}
-use Rattle.dg_tool.specs.Play.{IsReady, turn_of, lines_from}
-use Rattle.dg_tool.specs.Text.{line_of}
-use Rattle.dg_tool.proofs.Turns.{lines_ahead, turn_more}
+use Rattle.dg_tool.specs.declared.halt.Halt.TheVariants as halt
+use Rattle.dg_tool.specs.declared.halt.Limit.TheVariants as limit
+use Rattle.dg_tool.specs.declared.reply.Line.{Line as CodeLine}
+use Rattle.dg_tool.specs.declared.words.Task.{Task}
+use Rattle.dg_tool.specs.declared.words.Task.TheVariants.{Run}
+use Rattle.dg_tool.specs.Play.{Line, Played}
+use Rattle.dg_tool.specs.Printed.{IsPrinted}
+use Rattle.dg_tool.specs.Seen.{state_of, line_of}
+use Rattle.dg_tool.specs.Out.{line_text, is_large, out_of_task}
+use Rattle.dg_tool.specs.Statement.{IsOutput}
+use Rattle.dg_tool.proofs.Outputs.{map_both, done_output, large_output}
 use Rattle.dg_tool.proofs.output.lines_of.Goals as goal
 
-pub loop-command-preserved : goal.loop-command-preserved
-loop-command-preserved g c =
-    let command = c.command-item.result in
-    let turned : turn_of go_tables c.loop-command.state c.command-item.result.act ≡ Some (record { state = c.turn.new.state; text = c.in-Some.text }) =
-    search rules in
-    let pushed : c.push.new.self.items ≡ c.loop-command.lines.items ++ line_of c.command-item.result.line c.in-Some.text ∷ [] = search rules in
-    let ready : IsReady c.turn.new.state = search rules in (
-      ap (λ (ls : List (List ℕ)). lines_ahead ls (lines_from go_tables (drop (c.loop-command.command-index + 1) c.args.commands.now) c.turn.new.state)) pushed
-          ∙ turn_more go_tables c.args.commands.now c.loop-command.command-index command c.command-item.is c.loop-command-test.true c.loop-command.state
-          c.loop-command.lines.items c.turn.new.state c.in-Some.text turned
-          ∙ c.loop-command.invariant.0,
-      ready,
-    )
+pub returns-in-Some-clause-told : goal.returns-in-Some-clause-told
+returns-in-Some-clause-told g c =
+    let task : c.args.task ≡ Run c.as_str.result.now = search rules in
+    let names = c.in_ok-done.done.state.names in
+    let text : Line → List ℕ = line_text go_tables names in
+    let p : Played = record { lines = map line_of c.in_ok-done.done.lines.items; state = state_of c.in_ok-done.done.state } in
+    let printed = subst (λ o. IsPrinted o (map (λ (l : CodeLine). text (line_of l)) c.as_slice-2.result.now)) c.in-Some.is c.in_ok-lines.ensures in
+    let prints : c.in-Some.lines ≡ map text p.lines =
+    printed.0 ∙ ap (map (λ (l : CodeLine). text (line_of l))) c.as_slice-2.ensures.value ∙ sym (map_both text line_of c.in_ok-done.done.lines.items) in
+    IfSome_then (g.F.Files.tree c.args.files.now) c.in_ok-commands.ensures.told (λ t told.
+    subst (λ (k : Task). IsOutput (Ok c.in-Some.lines) (out_of_task go_tables t (Some k))) (sym task)
+    (done_output go_tables t c.as_str.result.now c.as_slice.result.now (state_of c.in_ok-begin.begin) p c.in-Some.lines (told ∙ ap Ok (sym c.as_slice.ensures))
+    (ap Ok (sym c.in_ok-begin.ensures.state)) c.in_ok-done.ensures prints (ap is_large printed.0 ∙ printed.1)))
+
+pub returns-clause-told : goal.returns-clause-told
+returns-clause-told g c =
+    let task : c.args.task ≡ Run c.as_str.result.now = search rules in
+    let names = c.in_ok-done.done.state.names in
+    let text : Line → List ℕ = line_text go_tables names in
+    let p : Played = record { lines = map line_of c.in_ok-done.done.lines.items; state = state_of c.in_ok-done.done.state } in
+    let large = subst (λ o. IsPrinted o (map (λ (l : CodeLine). text (line_of l)) c.as_slice-2.result.now)) c.in-None.is c.in_ok-lines.ensures in
+    let same = map_both text line_of c.in_ok-done.done.lines.items ∙ ap (map (λ (l : CodeLine). text (line_of l))) (sym c.as_slice-2.ensures.value) in
+    IfSome_then (g.F.Files.tree c.args.files.now) c.in_ok-commands.ensures.told (λ t told.
+    subst (λ (k : Task). IsOutput (Err (refusal.Because (halt.TooLarge limit.Text))) (out_of_task go_tables t (Some k))) (sym task)
+    (large_output go_tables t c.as_str.result.now c.as_slice.result.now (state_of c.in_ok-begin.begin) p (map text p.lines) (told ∙ ap Ok (sym c.as_slice.ensures))
+    (ap Ok (sym c.in_ok-begin.ensures.state)) c.in_ok-done.ensures refl (ap is_large same ∙ large)))

@@ -1,9 +1,12 @@
 use Rattle.std.proofs.Common.{◌≤◌, take}
-use Rattle.dg_tool.specs.Out.{text_of}
+use Rattle.dg_files.specs.Outcome.{StaysSound}
+use Rattle.dg_tool.specs.Text.{text_of}
 use Rattle.dg_tool.specs.Printed.{GotAll}
 use Rattle.dg_tool.proofs.printing.put_lines.Given as goal
 
 abbrev pub invariant-loop-line : goal.invariant-loop-line
-invariant-loop-line g l =
-    GotAll (g.S.Sink.bytes l.initial.out) (g.S.Sink.bytes l.out) (text_of (take l.line-index l.lines))
-    × (g.S.Sink.faults l.initial.out ≤ g.S.Sink.faults l.out)
+invariant-loop-line g l = record {
+  got : GotAll (g.S.Sink.bytes l.initial.out) (g.S.Sink.bytes l.out) (text_of (take l.line-index l.lines));
+  never_falls : g.S.Sink.faults l.initial.out ≤ g.S.Sink.faults l.out;
+  sound : StaysSound g.S.Sink.is_sound g.S.Sink.faults l.initial.out l.out;
+}

@@ -9,4 +9,4 @@ use Rattle.dg_tool.proofs.worked.deletes.Goals as goal
 
 pub returns : goal.returns
 unfolding digits chars is_utf8 encode_utf8 number_in fraction_digits name_of number_text
-returns c = refl
+returns c = (refl, refl)

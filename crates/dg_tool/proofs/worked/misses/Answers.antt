@@ -7,4 +7,4 @@ use Rattle.dg_tool.proofs.worked.misses.Goals as goal
 
 pub returns : goal.returns
 unfolding digits chars is_utf8 encode_utf8 number_in
-returns c = refl
+returns c = (refl, refl)

@@ -1,0 +1,44 @@
+-- How a run ends, and what ends it before a line of its script is put.
+use Rattle.std.specs.Prelude.{ℕ, List, [], ◌∷◌, ◌++◌, codes}
+use Rattle.dg_tool.specs.declared.status.Status.{Status}
+use Rattle.dg_tool.specs.declared.status.Status.TheVariants as status
+use Rattle.dg_tool.specs.declared.halt.Halt.{Halt}
+use Rattle.dg_tool.specs.declared.halt.Halt.TheVariants as halt
+use Rattle.dg_tool.specs.declared.halt.Limit.{Limit}
+use Rattle.dg_tool.specs.declared.halt.Limit.TheVariants as limit
+use Rattle.dg_tool.specs.Text.{bad_line_text}
+
+-- the number that a program ends with
+abbrev pub code_of : Status → ℕ
+code_of status.Done = 0
+code_of status.Usage = 1
+code_of status.NoInput = 2
+code_of status.Syntax = 3
+code_of status.FileFault = 4
+code_of status.SinkFault = 5
+code_of status.NoMemory = 6
+code_of status.TooLarge = 7
+
+abbrev pub status_of : Halt → Status
+status_of halt.NoInput = status.NoInput
+status_of (halt.BadLine line code) = status.Syntax
+status_of halt.NotBuilt = status.Syntax
+status_of (halt.TooLarge what) = status.TooLarge
+status_of halt.FileFault = status.FileFault
+
+-- the names of the limits
+abbrev pub limit_text : Limit → List ℕ
+limit_text limit.Script = codes "script"
+limit_text limit.Lines = codes "lines"
+limit_text limit.Text = codes "text"
+
+abbrev pub error_line : List ℕ → List ℕ
+error_line what = codes "error: " ++ what ++ 10 ∷ []
+
+-- the one line that is printed, but for a call of the files that failed
+abbrev pub halt_lines : Halt → List (List ℕ)
+halt_lines halt.NoInput = error_line (codes "no input") ∷ []
+halt_lines (halt.BadLine line code) = error_line (bad_line_text line code) ∷ []
+halt_lines halt.NotBuilt = error_line (codes "not built") ∷ []
+halt_lines (halt.TooLarge what) = error_line (codes "too large " ++ limit_text what) ∷ []
+halt_lines halt.FileFault = []

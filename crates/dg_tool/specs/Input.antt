@@ -1,0 +1,57 @@
+-- What a run reads of the tree of files: the script, and the state that it begins with.
+use Rattle.std.specs.Prelude.{◌≡◌, ℕ, List, [], cond, nat_lt, Result, Ok, Err, length}
+use Rattle.dg_base.specs.Graph.{empty}
+use Rattle.dg_base.specs.declared.refusal.Refusal.{Refusal}
+use Rattle.dg_base.specs.declared.refusal.Refusal.TheVariants as refusal
+use Rattle.dg_base.specs.Refusal.{and_then}
+use Rattle.dg_files.specs.Tree.{Tree, bytes_at, got_of}
+use Rattle.dg_files.specs.declared.files.Got.{Got}
+use Rattle.dg_files.specs.declared.files.Got.TheVariants as got
+use Rattle.dg_script.specs.declared.command.Command.{Command}
+use Rattle.dg_script.specs.declared.command.BadLine.{BadLine}
+use Rattle.dg_script.specs.Script.{lines_in, script_in}
+use Rattle.dg_tool.specs.declared.halt.Halt.{Halt}
+use Rattle.dg_tool.specs.declared.halt.Halt.TheVariants as halt
+use Rattle.dg_tool.specs.declared.halt.Limit.TheVariants as limit
+use Rattle.dg_tool.specs.Play.{State, are_built}
+
+-- a script has at most 1 MiB and 65,536 lines
+abbrev pub max_script : ℕ
+max_script = 1048576
+
+abbrev pub max_lines : ℕ
+max_lines = 65536
+
+-- the bytes of a script: they are there, and not too many
+abbrev pub whole : Got → Result (List ℕ) Halt
+whole got.Absent = Err halt.NoInput
+whole got.Longer = Err (halt.TooLarge limit.Script)
+whole (got.Whole bytes) = Ok bytes
+
+-- its commands: the number of its lines stands before the grammar
+abbrev pub in_grammar : Result (List Command) BadLine → Result (List Command) Halt
+in_grammar (Ok commands) = Ok commands
+in_grammar (Err bad) = Err (halt.BadLine bad.line bad.code)
+
+abbrev pub commands_in : List ℕ → Result (List Command) Halt
+commands_in bytes = cond (nat_lt max_lines (length (lines_in bytes))) (Err (halt.TooLarge limit.Lines)) (in_grammar (script_in bytes))
+
+-- what isn't played yet is looked for after the grammar, in the whole script
+abbrev pub built : List Command → Result (List Command) Halt
+built commands = cond (are_built commands) (Ok commands) (Err halt.NotBuilt)
+
+-- the commands of the script at a path
+abbrev pub script_of : Tree → List ℕ → Result (List Command) Halt
+script_of tree path = and_then (and_then (whole (got_of (bytes_at tree path) max_script)) commands_in) built
+
+-- what a call that reads files answers: what is given by the tree that they tell. Where a call of the
+-- files failed, or memory was refused, nothing is said
+abbrev pub Tells : {X : Type 0} → Result X (Refusal Halt) → Result X Halt → Type 0
+Tells (Ok x) given = given ≡ Ok x
+Tells (Err (refusal.Because halt.FileFault)) given = Unit {0}
+Tells (Err (refusal.Because h)) given = given ≡ Err h
+Tells (Err refusal.NoMemory) given = Unit {0}
+
+-- what the script begins with: nothing of the project is loaded yet
+abbrev pub loaded : Tree → Result State Halt
+loaded tree = Ok (record { graph = empty; next = 1; bound = []; names = [] })
