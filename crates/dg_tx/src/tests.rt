@@ -287,7 +287,7 @@ fn changed_rules(
     after: &Graph<GoKinds>,
     touched: &[Endpoint],
 ) -> Result<Option<usize>, AllocError> {
-    let mut count = 0;
+    let mut changed = Vec::new(alloc);
     for node in 1..10 {
         for label in 1..34 {
             let at = Endpoint {
@@ -300,10 +300,10 @@ fn changed_rules(
             if !touched.contains(&at) {
                 return Ok(None);
             }
-            count += 1;
+            changed.push(at)?;
         }
     }
-    Ok(Some(count))
+    Ok(Some(changed.len()))
 }
 
 // Whether the moves change this many rules, each of a touched endpoint.
