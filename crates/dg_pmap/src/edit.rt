@@ -1,4 +1,4 @@
-// A pair put where the tree keeps its shape: in place where nothing else holds a node, on a copy of it where a share does.
+//! A pair put where the tree keeps its shape: in place where nothing else holds a node, on a copy of it where a share does.
 // What a refusal or a full chunk leaves has the same pairs.
 ghost use Rattle.std.specs.Prelude.{◌≡◌, ◌+◌, ◌^◌, ◌<◌, ◌≤◌, length};
 ghost use Rattle.std.specs.Arc.{arc_value};

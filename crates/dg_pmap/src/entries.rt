@@ -1,3 +1,4 @@
+//! The pairs of one chunk, in key order.
 ghost use Rattle.std.specs.Prelude.{◌≡◌, ◌+◌, ◌≤◌, ◌<◌, ◌^◌, vec_len, List, [], ◌∷◌, ◌++◌, length, IfOk, IfErr, OnOk, OnErr, MatchResult, is_some};
 ghost use Rattle.std.specs.List.{insert};
 ghost use Rattle.std.specs.Option.{option_copied};

@@ -1,4 +1,4 @@
-// A pair more or less where the tree's shape has to change: new nodes along one path, the old ones stay.
+//! A pair more or less where the tree's shape has to change: new nodes along one path, the old ones stay.
 ghost use Rattle.std.specs.Prelude.{◌≡◌, ◌+◌, ◌≤◌, ◌<◌, ◌++◌, length, IfOk, OnOk};
 ghost use Rattle.std.specs.Arc.{arc_value};
 ghost use Rattle.std.specs.List.Sorted.{IsStrictlySortedBy};

@@ -1,4 +1,4 @@
-// Two balanced trees become one: the rotations of an AVL tree, on new forks, so that the old ones stay.
+//! Two balanced trees become one: the rotations of an AVL tree, on new forks, so that the old ones stay.
 ghost use Rattle.std.specs.Prelude.{◌≡◌, ◌+◌, ◌≤◌, ◌++◌, max, IfOk};
 ghost use Rattle.std.specs.Arc.{arc_value};
 ghost use Rattle.dg_pmap.specs.Heights.{IsJoinHeight};

@@ -1,4 +1,4 @@
-// The map: the pairs of its tree.
+//! The map: the pairs of its tree.
 ghost use Rattle.std.specs.Prelude.{◌≡◌, ◌+◌, ◌/◌, ◌^◌, ◌<◌, ◌≤◌, ◌↔◌, [], List, length, max, take, drop, slice_get, option_map, IsTrue, IfOk, OnOk, OnErr, is_some};
 ghost use Rattle.std.specs.Option.{option_copied};
 ghost use Rattle.std.specs.Map.{lookup, remove_entry};

@@ -1,4 +1,4 @@
-// The order of keys.
+//! The order of keys.
 ghost use Rattle.std.specs.Prelude.{◌≡◌};
 ghost use Rattle.std.specs.Ordering.{is_lt, is_eq};
 

@@ -1,4 +1,4 @@
-// A pair put into the root of a map.
+//! A pair put into the root of a map.
 ghost use Rattle.dg_pmap.specs.Shape.{pairs_of, LeavesAfter};
 ghost use Rattle.dg_pmap.specs.Edits.{PutsInChunk};
 ghost use Rattle.std.specs.Prelude.{◌≡◌, ◌+◌, ◌^◌, ◌<◌, length, [], ◌∷◌, true, false, IfOk, OnOk, OnErr, is_some};

@@ -1,3 +1,4 @@
+//! Values of which a second, equal one can be had.
 ghost use Rattle.std.specs.Prelude.{◌≡◌, IfOk};
 
 use std::alloc::{AllocError, Global};

@@ -1,4 +1,4 @@
-// A pair taken out where the tree keeps its shape, as a pair is put.
+//! A pair taken out where the tree keeps its shape, as a pair is put.
 ghost use Rattle.std.specs.Prelude.{◌≡◌, ◌<◌, ◌≤◌, false, length, Some};
 ghost use Rattle.std.specs.Arc.{arc_value};
 ghost use Rattle.std.specs.List.Sorted.{IsStrictlySortedBy};

@@ -1,4 +1,4 @@
-// A tree of chunks: each leaf holds a few pairs, each fork the lowest key of its upper half.
+//! A tree of chunks: each leaf holds a few pairs, each fork the lowest key of its upper half.
 ghost use Rattle.std.specs.Prelude.{◌≡◌, ◌+◌, ◌^◌, ◌<◌, ◌≤◌, ◌++◌, List, length, max, Some, IfOk};
 ghost use Rattle.std.specs.Arc.{arc_value};
 ghost use Rattle.dg_pmap.specs.Heights.{fewest};

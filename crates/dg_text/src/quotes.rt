@@ -15,6 +15,8 @@ pub fn quoted(alloc: Global, text: &str) -> Result<Vec<u8>, AllocError>
     Ok(out)
 }
 
+/// Puts the quoted text behind what is there, in time linear in the text. Where memory is refused, a first
+/// part of it may stand there.
 pub fn put_quoted(out: &mut Vec<u8>, text: &str) -> Result<(), AllocError>
     ensures { OnOk result (out.new.items ≡ out.old.items ++ quoted text.now) }
 {

@@ -1,3 +1,4 @@
+//! The graph as lists behind a counted pointer.
 ghost use Rattle.std.specs.Prelude.{◌≡◌, IfOk};
 ghost use Rattle.dg_base.specs.Graph.{empty};
 ghost use Rattle.dg_base.specs.Sound.{IsSound};
