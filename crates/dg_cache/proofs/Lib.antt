@@ -1,0 +1,4 @@
+pub mod Ends
+pub mod Listing
+pub mod Ordering
+pub mod Laying

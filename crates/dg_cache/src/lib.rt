@@ -1,0 +1,23 @@
+//! A bounded cache of answers, most recent first. [`Cache`] keeps an answer for each of at most as many
+//! endpoints as its capacity, and drops the one that was longest unused when another comes. A [`Snapshot`]
+//! is all that a cache has at a time, shared with it: neither changes through the other.
+//!
+//! Contracts see a cache as its capacity and the list of its [`Entry`]s, most recent first, and a snapshot as
+//! its entries in endpoint order. `specs/Entries.antt` says what each call makes of the list.
+#![tactic(auto)]
+
+// An endpoint with its answer.
+mod entry;
+// Entries in endpoint order, shared.
+mod ordered;
+mod snapshot;
+mod values;
+// The endpoints by how recent they are, and the cache.
+mod cache;
+mod recent;
+#[cfg(test)]
+mod tests;
+
+pub use cache::{Cache, EvictEnd, Evicted};
+pub use entry::Entry;
+pub use snapshot::Snapshot;
