@@ -1,0 +1,5 @@
+-- In reading order: each module uses only the ones before it.
+pub mod Parts
+pub mod Runs
+pub mod Values
+pub mod Script
