@@ -64,7 +64,8 @@ fn scripts_in_a_folder_are_played_or_refused(rt: HostRuntime) -> Result<(), Fail
         ("make Sum s\nask now s.total", 0, "1: ok\n2: 0\n"),
         ("begin\nmake Num a\n", 3, "error: script line 1 OpenBlock\n"),
         ("make Num \n", 3, "error: script line 1 Arity\n"),
-        ("undo\n", 3, NOT_BUILT),
+        ("undo\n", 0, "1: NothingToUndo\n"),
+        ("evict 1\n", 3, NOT_BUILT),
         ("make Collection c\n", 3, NOT_BUILT),
         ("ask now s.total\nmake Sum s\n", 0, "1: NoName\n2: ok\n"),
         (

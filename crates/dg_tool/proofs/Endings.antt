@@ -39,6 +39,7 @@ prefix_of_none before now part = got_none before now (subst (GotAll before now) 
 not_usage : (h : Halt) → status_of h ≡ status.Usage → ⊥
 not_usage halt.NoInput is = omega (arith, ap code_of is)
 not_usage (halt.BadLine line code) is = omega (arith, ap code_of is)
+not_usage (halt.BadFile line code) is = omega (arith, ap code_of is)
 not_usage halt.NotBuilt is = omega (arith, ap code_of is)
 not_usage (halt.TooLarge what) is = omega (arith, ap code_of is)
 not_usage halt.FileFault is = omega (arith, ap code_of is)
@@ -46,6 +47,7 @@ not_usage halt.FileFault is = omega (arith, ap code_of is)
 not_sink_fault : (h : Halt) → status_of h ≡ status.SinkFault → ⊥
 not_sink_fault halt.NoInput is = omega (arith, ap code_of is)
 not_sink_fault (halt.BadLine line code) is = omega (arith, ap code_of is)
+not_sink_fault (halt.BadFile line code) is = omega (arith, ap code_of is)
 not_sink_fault halt.NotBuilt is = omega (arith, ap code_of is)
 not_sink_fault (halt.TooLarge what) is = omega (arith, ap code_of is)
 not_sink_fault halt.FileFault is = omega (arith, ap code_of is)
@@ -53,6 +55,7 @@ not_sink_fault halt.FileFault is = omega (arith, ap code_of is)
 is_file_fault : (h : Halt) → status_of h ≡ status.FileFault → h ≡ halt.FileFault
 is_file_fault halt.NoInput is = absurd (omega (arith, ap code_of is))
 is_file_fault (halt.BadLine line code) is = absurd (omega (arith, ap code_of is))
+is_file_fault (halt.BadFile line code) is = absurd (omega (arith, ap code_of is))
 is_file_fault halt.NotBuilt is = absurd (omega (arith, ap code_of is))
 is_file_fault (halt.TooLarge what) is = absurd (omega (arith, ap code_of is))
 is_file_fault halt.FileFault is = refl
@@ -113,6 +116,7 @@ module _ (ended : Status) (before now : Option (List ℕ)) where
         EndsAs due ended tree_before tree_now before now
     halted_ends halt.NoInput is put = halt_ends halt.NoInput is tt put
     halted_ends (halt.BadLine line code) is put = halt_ends (halt.BadLine line code) is tt put
+    halted_ends (halt.BadFile line code) is put = halt_ends (halt.BadFile line code) is tt put
     halted_ends halt.NotBuilt is put = halt_ends halt.NotBuilt is tt put
     halted_ends (halt.TooLarge what) is put = halt_ends (halt.TooLarge what) is tt put
     halted_ends halt.FileFault is (inl all) = record {
@@ -128,6 +132,7 @@ module _ (ended : Status) (before now : Option (List ℕ)) where
 halted_status : (due : Out) (h : Halt) → IsOutput (Err (refusal.Because h)) due → (h ≡ halt.FileFault → ⊥) → status_of h ≡ due.status
 halted_status due halt.NoInput is failed = ap (λ (o : Out). o.status) (sym is)
 halted_status due (halt.BadLine line code) is failed = ap (λ (o : Out). o.status) (sym is)
+halted_status due (halt.BadFile line code) is failed = ap (λ (o : Out). o.status) (sym is)
 halted_status due halt.NotBuilt is failed = ap (λ (o : Out). o.status) (sym is)
 halted_status due (halt.TooLarge what) is failed = ap (λ (o : Out). o.status) (sym is)
 halted_status due halt.FileFault is failed = absurd (failed refl)

@@ -3,8 +3,8 @@ use Rattle.std.proofs.Common.{◌≡◌, ℕ, ◌+◌, ◌<◌, ◌≤◌, List,
 use Rattle.std.specs.Prelude.{nat_lt}
 use Rattle.std.proofs.lemmas.Bool.Decides.{nat_tests}
 use Rattle.std.proofs.lemmas.List.{take_all}
-use Rattle.dg_tool.specs.Text.{text_of}
-use Rattle.dg_tool.specs.Out.{is_large, max_text}
+use Rattle.dg_tool.specs.Text.{max_text, text_of}
+use Rattle.dg_tool.specs.Out.{is_large}
 use Rattle.dg_tool.proofs.Sinks.{text_of-split, text_of-take}
 
 is_above : (n m : ℕ) → n < m → nat_lt n m ≡ true

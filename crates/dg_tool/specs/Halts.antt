@@ -6,7 +6,7 @@ use Rattle.dg_tool.specs.declared.halt.Halt.{Halt}
 use Rattle.dg_tool.specs.declared.halt.Halt.TheVariants as halt
 use Rattle.dg_tool.specs.declared.halt.Limit.{Limit}
 use Rattle.dg_tool.specs.declared.halt.Limit.TheVariants as limit
-use Rattle.dg_tool.specs.Text.{bad_line_text}
+use Rattle.dg_tool.specs.Text.{bad_line_text, bad_file_text}
 
 -- the number that a program ends with
 abbrev pub code_of : Status → ℕ
@@ -22,6 +22,7 @@ code_of status.TooLarge = 7
 abbrev pub status_of : Halt → Status
 status_of halt.NoInput = status.NoInput
 status_of (halt.BadLine line code) = status.Syntax
+status_of (halt.BadFile line code) = status.Syntax
 status_of halt.NotBuilt = status.Syntax
 status_of (halt.TooLarge what) = status.TooLarge
 status_of halt.FileFault = status.FileFault
@@ -30,6 +31,7 @@ status_of halt.FileFault = status.FileFault
 abbrev pub limit_text : Limit → List ℕ
 limit_text limit.Script = codes "script"
 limit_text limit.Lines = codes "lines"
+limit_text limit.File = codes "file"
 limit_text limit.Text = codes "text"
 
 abbrev pub error_line : List ℕ → List ℕ
@@ -39,6 +41,7 @@ error_line what = codes "error: " ++ what ++ 10 ∷ []
 abbrev pub halt_lines : Halt → List (List ℕ)
 halt_lines halt.NoInput = error_line (codes "no input") ∷ []
 halt_lines (halt.BadLine line code) = error_line (bad_line_text line code) ∷ []
+halt_lines (halt.BadFile line code) = error_line (bad_file_text line code) ∷ []
 halt_lines halt.NotBuilt = error_line (codes "not built") ∷ []
 halt_lines (halt.TooLarge what) = error_line (codes "too large " ++ limit_text what) ∷ []
 halt_lines halt.FileFault = []

@@ -1,9 +1,10 @@
 -- What a run reads of the tree of files: the script, and the state that it begins with.
 use Rattle.std.specs.Prelude.{◌≡◌, ℕ, List, [], cond, nat_lt, Result, Ok, Err, length}
-use Rattle.dg_base.specs.Graph.{empty}
 use Rattle.dg_base.specs.declared.refusal.Refusal.{Refusal}
 use Rattle.dg_base.specs.declared.refusal.Refusal.TheVariants as refusal
 use Rattle.dg_base.specs.Refusal.{and_then}
+use Rattle.dg_base.specs.Graph.{empty}
+use Rattle.dg_base.specs.Transact.{Applied}
 use Rattle.dg_files.specs.Tree.{Tree, bytes_at, got_of}
 use Rattle.dg_files.specs.declared.files.Got.{Got}
 use Rattle.dg_files.specs.declared.files.Got.TheVariants as got
@@ -12,21 +13,27 @@ use Rattle.dg_script.specs.declared.command.BadLine.{BadLine}
 use Rattle.dg_script.specs.Script.{lines_in, script_in}
 use Rattle.dg_tool.specs.declared.halt.Halt.{Halt}
 use Rattle.dg_tool.specs.declared.halt.Halt.TheVariants as halt
+use Rattle.dg_tool.specs.declared.halt.Limit.{Limit}
 use Rattle.dg_tool.specs.declared.halt.Limit.TheVariants as limit
-use Rattle.dg_tool.specs.Play.{State, are_built}
+use Rattle.dg_editor.specs.Machine.{begun}
+use Rattle.dg_play.specs.Play.{State}
+use Rattle.dg_tool.specs.Built.{are_built}
 
--- a script has at most 1 MiB and 65,536 lines
+-- a file has at most 1 MiB, and a script 65,536 lines
 abbrev pub max_script : ℕ
 max_script = 1048576
 
 abbrev pub max_lines : ℕ
 max_lines = 65536
 
--- the bytes of a script: they are there, and not too many
-abbrev pub whole : Got → Result (List ℕ) Halt
-whole got.Absent = Err halt.NoInput
-whole got.Longer = Err (halt.TooLarge limit.Script)
-whole (got.Whole bytes) = Ok bytes
+-- the bytes of a file: they are there, and not too many
+abbrev pub whole : Limit → Got → Result (List ℕ) Halt
+whole most got.Absent = Err halt.NoInput
+whole most got.Longer = Err (halt.TooLarge most)
+whole most (got.Whole bytes) = Ok bytes
+
+abbrev pub bytes_of : Tree → Limit → List ℕ → Result (List ℕ) Halt
+bytes_of tree most path = whole most (got_of (bytes_at tree path) max_script)
 
 -- its commands: the number of its lines stands before the grammar
 abbrev pub in_grammar : Result (List Command) BadLine → Result (List Command) Halt
@@ -42,7 +49,7 @@ built commands = cond (are_built commands) (Ok commands) (Err halt.NotBuilt)
 
 -- the commands of the script at a path
 abbrev pub script_of : Tree → List ℕ → Result (List Command) Halt
-script_of tree path = and_then (and_then (whole (got_of (bytes_at tree path) max_script)) commands_in) built
+script_of tree path = and_then (and_then (bytes_of tree limit.Script path) commands_in) built
 
 -- what a call that reads files answers: what is given by the tree that they tell. Where a call of the
 -- files failed, or memory was refused, nothing is said
@@ -52,6 +59,12 @@ Tells (Err (refusal.Because halt.FileFault)) given = Unit {0}
 Tells (Err (refusal.Because h)) given = given ≡ Err h
 Tells (Err refusal.NoMemory) given = Unit {0}
 
--- what the script begins with: nothing of the project is loaded yet
+-- what the script begins with: an editor over an empty graph, since nothing of the project is loaded yet
+abbrev pub nothing_loaded : Applied
+nothing_loaded = record { graph = empty; next = 1; made = []; touched = [] }
+
+abbrev pub begin_with : Applied → State
+begin_with a = record { editor = begun a; pins = []; bound = []; names = [] }
+
 abbrev pub loaded : Tree → Result State Halt
-loaded tree = Ok (record { graph = empty; next = 1; bound = []; names = [] })
+loaded tree = Ok (begin_with nothing_loaded)

@@ -2,9 +2,9 @@
 pub mod Text
 pub mod Halts
 pub mod Words
-pub mod Play
-pub mod Seen
+pub mod Built
 pub mod Input
+pub mod Format
 pub mod Out
 pub mod Printed
 pub mod Statement

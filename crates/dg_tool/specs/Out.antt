@@ -13,15 +13,20 @@ use Rattle.dg_tool.specs.declared.halt.Halt.{Halt}
 use Rattle.dg_tool.specs.declared.halt.Halt.TheVariants as halt
 use Rattle.dg_tool.specs.declared.halt.Limit.TheVariants as limit
 use Rattle.dg_tool.specs.declared.words.Task.{Task}
-use Rattle.dg_tool.specs.declared.words.Task.TheVariants.{Run}
-use Rattle.dg_tool.specs.Text.{ok_text, empty_text, no_name_text, no_label_text, missing_text, code_text, refused_text, not_built_text, line_of, text_of}
+use Rattle.dg_tool.specs.declared.words.Task.TheVariants.{Run, Format}
+use Rattle.dg_tool.specs.Text.{ok_text, empty_text, no_name_text, no_label_text, missing_text, code_text, refused_text, line_full_text, nothing_to_undo_text, nothing_to_redo_text, pin_used_text, pins_full_text, pinned_text, no_pin_text, not_built_text, max_text, line_of, text_of}
 use Rattle.dg_tool.specs.Halts.{status_of, halt_lines, error_line}
 use Rattle.dg_tool.specs.Words.{task_of}
-use Rattle.dg_tool.specs.Play.{Ask, Reply, Done, Empty, NoName, NoLabel, Misses, Refused, NotBuilt, Waits, Line, Played, played}
+use Rattle.dg_line.specs.Revisions.{Seen}
+use Rattle.dg_editor.specs.Machine.{revisions}
+use Rattle.dg_play.specs.Asks.{Ask}
+use Rattle.dg_play.specs.Play.{Reply, Done, Empty, LineFull, NothingToUndo, NothingToRedo, NoName, NoLabel, Misses, Refused, PinUsed, PinsFull, PinnedAt, NoPin, NotBuilt, Answers, Line, Played, graph_now, played}
 use Rattle.dg_tool.specs.Input.{script_of, loaded}
+use Rattle.dg_tool.specs.Format.{formatted_in}
 
 -- all that a run does: its status, the lines that it prints, the files that it writes, each with the
--- number of the line whose command writes it, the last graph, and the answers that were asked for
+-- number of the line whose command writes it, the last graph, the revisions in order, and the answers that
+-- were asked for
 pub record Written : Type 0 where
   pub line : ℕ
   pub file : File
@@ -31,41 +36,45 @@ pub record Out : Type 0 where
   pub lines : List (List ℕ)
   pub files : List Written
   pub last : Graph
+  pub revisions : List Seen
   pub asks : List Ask
 
 -- a run that ends before a script is played
 abbrev pub halted : Halt → Out
-halted h = record { status = status_of h; lines = halt_lines h; files = []; last = empty; asks = [] }
+halted h = record { status = status_of h; lines = halt_lines h; files = []; last = empty; revisions = []; asks = [] }
 
 -- words that say no task
 abbrev pub usage : Out
-usage = record { status = status.Usage; lines = error_line (codes "usage") ∷ []; files = []; last = empty; asks = [] }
+usage = record { status = status.Usage; lines = error_line (codes "usage") ∷ []; files = []; last = empty; revisions = []; asks = [] }
 
 -- the text of an answer: the value of the endpoint by plain evaluation
 abbrev pub ask_text : Tables → List (List ℕ) → Ask → List ℕ
-ask_text t names a = answer_text (value_at t a.graph a.at) names
+ask_text t names a = answer_text (value_at t a.revision.graph a.at) names
 
 abbrev pub reply_text : Tables → List (List ℕ) → Reply → List ℕ
 reply_text t names Done = ok_text
 reply_text t names Empty = empty_text
+reply_text t names LineFull = line_full_text
+reply_text t names NothingToUndo = nothing_to_undo_text
+reply_text t names NothingToRedo = nothing_to_redo_text
 reply_text t names NoName = no_name_text
 reply_text t names NoLabel = no_label_text
 reply_text t names (Misses step missing) = refused_text step (missing_text missing)
 reply_text t names (Refused step code) = refused_text step (code_text code)
+reply_text t names PinUsed = pin_used_text
+reply_text t names PinsFull = pins_full_text
+reply_text t names (PinnedAt number) = pinned_text number
+reply_text t names NoPin = no_pin_text
 reply_text t names NotBuilt = not_built_text
-reply_text t names (Waits a) = ask_text t names a
+reply_text t names (Answers a) = ask_text t names a
 
 abbrev pub line_text : Tables → List (List ℕ) → Line → List ℕ
 line_text t names line = line_of line.number (reply_text t names line.reply)
 
--- the answers that a reply waits for
+-- the answer that a reply has
 abbrev pub asks_in : Reply → List Ask
-asks_in (Waits a) = a ∷ []
+asks_in (Answers a) = a ∷ []
 asks_in _ = []
-
--- all that is printed has at most 256 MiB, line feeds included
-abbrev pub max_text : ℕ
-max_text = 268435456
 
 abbrev pub is_large : List (List ℕ) → Bool
 is_large lines = nat_lt max_text (length (text_of lines))
@@ -75,7 +84,8 @@ done p lines = record {
   status = status.Done;
   lines = lines;
   files = [];
-  last = p.state.graph;
+  last = graph_now p.state;
+  revisions = revisions p.state.editor;
   asks = flat_map (λ line. asks_in line.reply) p.lines;
 }
 
@@ -87,16 +97,25 @@ out_of_lines p lines = cond (is_large lines) (halted (halt.TooLarge limit.Text))
 abbrev pub out_of_played : Tables → Played → Out
 out_of_played t p = out_of_lines p (map (line_text t p.state.names) p.lines)
 
-abbrev pub played_in : Tables → Tree → Task → Result Played Halt
-played_in t tree (Run script) = and_then (script_of tree script) (λ commands. and_then (loaded tree) (λ state. Ok (played t commands state)))
+abbrev pub played_in : Tables → Tree → List ℕ → Result Played Halt
+played_in t tree script = and_then (script_of tree script) (λ commands. and_then (loaded tree) (λ state. Ok (played t commands state)))
 
 abbrev pub out_of_result : Tables → Result Played Halt → Out
 out_of_result t (Ok p) = out_of_played t p
 out_of_result t (Err h) = halted h
 
+-- a file that is formatted: its text, and nothing else is done
+abbrev pub printed_alone : List (List ℕ) → Out
+printed_alone lines = record { status = status.Done; lines = lines; files = []; last = empty; revisions = []; asks = [] }
+
+abbrev pub out_of_text : Result (List (List ℕ)) Halt → Out
+out_of_text (Ok lines) = printed_alone lines
+out_of_text (Err h) = halted h
+
 abbrev pub out_of_task : Tables → Tree → Option Task → Out
 out_of_task t tree None = usage
-out_of_task t tree (Some task) = out_of_result t (played_in t tree task)
+out_of_task t tree (Some (Run script)) = out_of_result t (played_in t tree script)
+out_of_task t tree (Some (Format path)) = out_of_text (formatted_in tree path)
 
 abbrev pub out_of : Tables → Tree → List (List ℕ) → Out
 out_of t tree words = out_of_task t tree (task_of words)

@@ -7,6 +7,8 @@ use Rattle.dg_bind.specs.declared.refusal.Missing.{Missing}
 use Rattle.dg_bind.specs.declared.refusal.Missing.TheVariants as missing
 use Rattle.dg_script.specs.declared.command.ScriptCode.{ScriptCode}
 use Rattle.dg_script.specs.declared.command.ScriptCode.TheVariants as bad
+use Rattle.dg_tool.specs.declared.halt.FileCode.{FileCode}
+use Rattle.dg_tool.specs.declared.halt.FileCode.TheVariants as file
 
 abbrev pub ok_text : List ℕ
 ok_text = codes "ok"
@@ -19,6 +21,28 @@ no_name_text = codes "NoName"
 
 abbrev pub no_label_text : List ℕ
 no_label_text = codes "NoLabel"
+
+abbrev pub line_full_text : List ℕ
+line_full_text = codes "LineFull"
+
+abbrev pub nothing_to_undo_text : List ℕ
+nothing_to_undo_text = codes "NothingToUndo"
+
+abbrev pub nothing_to_redo_text : List ℕ
+nothing_to_redo_text = codes "NothingToRedo"
+
+abbrev pub pin_used_text : List ℕ
+pin_used_text = codes "PinUsed"
+
+abbrev pub pins_full_text : List ℕ
+pins_full_text = codes "PinsFull"
+
+-- a pin that is taken, by the number of its revision
+abbrev pub pinned_text : ℕ → List ℕ
+pinned_text number = codes "pinned " ++ decimal number
+
+abbrev pub no_pin_text : List ℕ
+no_pin_text = codes "NoPin"
 
 -- a command that isn't played yet
 abbrev pub not_built_text : List ℕ
@@ -57,6 +81,22 @@ bad_code_text bad.OpenBlock = codes "OpenBlock"
 -- a bad line of the script, by its number and its code
 abbrev pub bad_line_text : ℕ → ScriptCode → List ℕ
 bad_line_text line c = codes "script line " ++ decimal line ++ codes " " ++ bad_code_text c
+
+abbrev pub file_code_text : FileCode → List ℕ
+file_code_text file.Utf8 = codes "Utf8"
+file_code_text file.Token = codes "Token"
+file_code_text file.Nesting = codes "Nesting"
+file_code_text file.Unclosed = codes "Unclosed"
+file_code_text file.Missing = codes "Missing"
+file_code_text file.Form = codes "Form"
+
+-- a bad place of a file
+abbrev pub bad_file_text : ℕ → FileCode → List ℕ
+bad_file_text line c = codes "file line " ++ decimal line ++ codes " " ++ file_code_text c
+
+-- all that is printed has at most 256 MiB, line feeds included
+abbrev pub max_text : ℕ
+max_text = 268435456
 
 -- a line of the output: the number of the script's line, a colon, a blank and the text
 abbrev pub line_of : ℕ → List ℕ → List ℕ

@@ -1,7 +1,7 @@
-//! Which commands are played yet.
+//! Which commands are played.
 ghost use Rattle.std.specs.Prelude.{◌≡◌};
 ghost use Rattle.std.specs.List.{list_all};
-ghost use Rattle.dg_tool.specs.Play.{are_built, is_built, is_step_built};
+ghost use Rattle.dg_tool.specs.Built.{are_built, is_built, is_step_built};
 
 use dg_labels::kinds::COMPONENT_EMBEDDED;
 use dg_script::{Act, Command, StepWords};
@@ -24,9 +24,8 @@ fn is_built(act: &Act) -> bool
     match act {
         Act::Step(step) => is_step_built(step),
         Act::Block { steps } => are_steps_built(steps.as_slice()),
-        Act::Ask { pin: None, .. } => true,
-        Act::Alias { .. } => true,
-        _ => false,
+        Act::Build { .. } | Act::Evict { .. } => false,
+        _ => true,
     }
 }
 

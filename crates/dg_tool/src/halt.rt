@@ -12,7 +12,20 @@ use std::alloc::{AllocError, Global};
 pub enum Limit {
     Script,
     Lines,
+    File,
     Text,
+}
+
+/// Why a file can't be formatted.
+#[derive(Clone, Copy, PartialEq, Eq, Debug)]
+pub enum FileCode {
+    /// The bytes aren't UTF-8. The line is 0.
+    Utf8,
+    Token,
+    Nesting,
+    Unclosed,
+    Missing,
+    Form,
 }
 
 /// Why a run ends before a line of its script is put, beside want of memory.
@@ -20,6 +33,8 @@ pub enum Limit {
 pub enum Halt {
     NoInput,
     BadLine { line: u32, code: ScriptCode },
+    /// The file can't be read: the line of the first place that can't go on, and why.
+    BadFile { line: u32, code: FileCode },
     NotBuilt,
     TooLarge(Limit),
     FileFault,
@@ -32,6 +47,7 @@ impl Halt {
         match self {
             Halt::NoInput => Status::NoInput,
             Halt::BadLine { .. } => Status::Syntax,
+            Halt::BadFile { .. } => Status::Syntax,
             Halt::NotBuilt => Status::Syntax,
             Halt::TooLarge(_) => Status::TooLarge,
             Halt::FileFault => Status::FileFault,
@@ -46,6 +62,7 @@ impl Halt {
         match self {
             Halt::NoInput => lines.push(text::error(alloc, b"no input")?)?,
             Halt::BadLine { line, code } => lines.push(text::bad_line(alloc, line, code)?)?,
+            Halt::BadFile { line, code } => lines.push(text::bad_file(alloc, line, code)?)?,
             Halt::NotBuilt => lines.push(text::error(alloc, b"not built")?)?,
             Halt::TooLarge(limit) => lines.push(text::too_large(alloc, limit)?)?,
             Halt::FileFault => {}

@@ -1,22 +1,43 @@
 //! What a run reads of the files: the script, and the state that it begins with.
-ghost use Rattle.std.specs.Prelude.{◌≡◌, ◌≤◌, [], IfOk, IfSome, IsErrOf};
-ghost use Rattle.dg_base.specs.Graph.{empty};
+ghost use Rattle.std.specs.Prelude.{◌≡◌, ◌≤◌, IfOk, IfSome, IsErrOf};
 ghost use Rattle.dg_base.specs.Refusal.{Gives};
 ghost use Rattle.dg_files.specs.Outcome.{Rose, StaysSound};
-ghost use Rattle.dg_tool.specs.Input.{Tells, script_of, commands_in, built};
-ghost use Rattle.dg_tool.specs.Play.{IsReady};
-ghost use Rattle.dg_tool.specs.Seen.{state_of};
+ghost use Rattle.dg_tool.specs.Input.{Tells, begin_with, built, bytes_of, commands_in, nothing_loaded, script_of};
+ghost use Rattle.dg_play.specs.Seen.{state_of};
 
 use crate::built::are_built;
 use crate::halt::{Halt, Limit};
 use crate::size::{MAX_LINES, MAX_SCRIPT, line_count};
-use crate::state::State;
 use dg_base::{Names, Refusal};
 use dg_bind::Bindings;
-use dg_files::{Files, Got};
+use dg_editor::Editor;
+use dg_files::{Bytes, Files, Got};
+use dg_line::OwnLine;
+use dg_play::State;
 use dg_script::{Script, read_script};
-use dg_view::Graph;
 use std::alloc::{AllocError, Global};
+
+/// The bytes of a file, of which there are at most 1 MiB. The files are read and nothing else.
+pub(crate) fn bytes_of<F: Files>(
+    alloc: Global,
+    files: &mut F,
+    path: &str,
+    limit: Limit,
+) -> Result<Bytes, Refusal<Halt>>
+    ensures told { IfSome (F.tree files.old) (λ t. Tells result (bytes_of t limit path.now)) }
+    ensures tree { F.tree files.new ≡ F.tree files.old }
+    ensures never_falls { F.faults files.old ≤ F.faults files.new }
+    ensures cause { IsErrOf result (Refusal.Because Halt.FileFault) → Rose (F.faults files.old) (F.faults files.new) }
+    ensures sound { StaysSound F.is_sound F.faults files.old files.new }
+{
+    match files.read(alloc, path, MAX_SCRIPT) {
+        Ok(Got::Whole(bytes)) => Ok(bytes),
+        Ok(Got::Absent) => Err(Refusal::Because(Halt::NoInput)),
+        Ok(Got::Longer) => Err(Refusal::Because(Halt::TooLarge(limit))),
+        Err(Refusal::Because(_)) => Err(Refusal::Because(Halt::FileFault)),
+        Err(Refusal::NoMemory) => Err(Refusal::NoMemory),
+    }
+}
 
 /// The commands of the script at a path. The files are read and nothing else.
 pub(crate) fn script_of<F: Files>(
@@ -30,13 +51,7 @@ pub(crate) fn script_of<F: Files>(
     ensures cause { IsErrOf result (Refusal.Because Halt.FileFault) → Rose (F.faults files.old) (F.faults files.new) }
     ensures sound { StaysSound F.is_sound F.faults files.old files.new }
 {
-    let bytes = match files.read(alloc, path, MAX_SCRIPT) {
-        Ok(Got::Whole(bytes)) => bytes,
-        Ok(Got::Absent) => return Err(Refusal::Because(Halt::NoInput)),
-        Ok(Got::Longer) => return Err(Refusal::Because(Halt::TooLarge(Limit::Script))),
-        Err(Refusal::Because(_)) => return Err(Refusal::Because(Halt::FileFault)),
-        Err(Refusal::NoMemory) => return Err(Refusal::NoMemory),
-    };
+    let bytes = bytes_of(alloc, files, path, Limit::Script)?;
     let commands = commands_in(alloc, bytes.as_slice())?;
     built(commands)
 }
@@ -71,12 +86,16 @@ fn built(commands: Script) -> Result<Script, Refusal<Halt>>
 
 /// The state that a script begins with. Nothing of the project is loaded yet.
 pub(crate) fn loaded(alloc: Global) -> Result<State, AllocError>
-    ensures state { IfOk result (λ s. state_of s ≡ record { graph = empty; next = 1; bound = []; names = [] }) }
-    ensures ready { IfOk result (λ s. IsReady (state_of s)) }
+    ensures { IfOk result (λ s. state_of s ≡ begin_with nothing_loaded) }
 {
+    let (editor, _made) = match Editor::open(alloc, OwnLine::new(alloc), &[]) {
+        Ok(opened) => opened,
+        Err(Refusal::Because(_)) => unreachable!(),
+        Err(Refusal::NoMemory) => return Err(AllocError),
+    };
     Ok(State {
-        graph: Graph::new(alloc)?,
-        next: 1,
+        editor,
+        pins: Vec::new(alloc),
         bound: Bindings::new(alloc),
         names: Names::new(alloc),
     })

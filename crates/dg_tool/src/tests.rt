@@ -3,6 +3,7 @@ ghost use Rattle.std.specs.Prelude.{◌≡◌, ◌<◌};
 use crate::run_alone;
 use dg_base::Steps;
 use dg_files::{MemFiles, MemSink, are_distinct};
+use itoa::Buffer;
 use std::alloc::{AllocError, Global};
 use std::marker::Brand;
 use std::sync::ledger::{Blank, Ledger};
@@ -67,10 +68,11 @@ connect j.value s.terms
 ask now s.total
 ";
 
-/// What a run has outside of it: the script at `/e.txt`, the numbers of the read and of the put that
+/// What a run has outside of it: a file, which is the script at `/e.txt` mostly, the numbers of the read and of the put that
 /// fail (0 for none), and how many bytes a put takes.
 #[derive(Drop)]
 struct Outside<'a> {
+    path: &'a str,
     script: &'a [u8],
     failing_read: u64,
     failing_put: u64,
@@ -79,6 +81,7 @@ struct Outside<'a> {
 
 fn sound(script: &str) -> Outside<'_> {
     Outside {
+        path: "/e.txt",
         script: script.as_bytes(),
         failing_read: 0,
         failing_put: 0,
@@ -97,7 +100,7 @@ fn words_of(alloc: Global, text: &str) -> Result<Vec<String>, AllocError> {
 fn files_of(alloc: Global, outside: &Outside<'_>) -> Result<MemFiles, AllocError> {
     let mut tree = Vec::new(alloc);
     let script = Vec::from_slice(alloc, outside.script)?;
-    tree.push((String::from_str(alloc, "/e.txt")?, script))?;
+    tree.push((String::from_str(alloc, outside.path)?, script))?;
     if !are_distinct(&tree) {
         return Err(AllocError);
     }
@@ -162,6 +165,7 @@ fn the_first_script_ends_as_the_outside_lets_it(rt: HostRuntime) -> Result<(), F
         (1, 0, 10, 5, "1: ok\n2: "),
     ] {
         let outside = Outside {
+            path: "/e.txt",
             script: FIRST.as_bytes(),
             failing_read,
             failing_put,
@@ -234,7 +238,11 @@ static SPELLED: [(&str, &str); 6] = [
 ];
 
 /// Faults and what stands in for them, cycles, kinds and types.
-static GRAPHS: [(&str, &str); 4] = [
+static GRAPHS: [(&str, &str); 5] = [
+    (
+        "make Num a\nmake Sum s\nmake Sum t\nconnect a.value s.terms\nconnect s.total t.terms\nask now t.total\nask now s.total\nask now t.total",
+        "1: ok\n2: ok\n3: ok\n4: ok\n5: ok\n6: 0\n7: 0\n8: 0\n",
+    ),
     (
         "make Num a\nmake Num b\nmake Sum s\nset a.value 9223372036.854775807\nset b.value 9223372036.854775807\nconnect a.value s.terms\nconnect b.value s.terms\nask now s.total\nmake Sum u\nconnect s.total u.extra\nask now u.total",
         "1: ok\n2: ok\n3: ok\n4: ok\n5: ok\n6: ok\n7: ok\n8: fault 3.total Range\n9: ok\n10: ok\n11: 0\n",
@@ -294,6 +302,31 @@ static OVERRIDES: [(&str, &str); 4] = [
     ),
 ];
 
+/// Undo and redo, and pins, which show their revision's graph with today's names.
+static EDITED: [(&str, &str); 6] = [
+    (
+        "undo\nmake Num a\nundo\nredo\nredo",
+        "1: NothingToUndo\n2: ok\n3: ok\n4: ok\n5: NothingToRedo\n",
+    ),
+    (
+        "make Num a\npin old\nset a.value 9\nask old a.value\nask now a.value",
+        "1: ok\n2: pinned 1\n3: ok\n4: 0\n5: 9\n",
+    ),
+    ("ask p a.value", "1: NoPin\n"),
+    (
+        "pin p\nmake Num a\npin q\npin q\nset a.value 2\npin r\nask p a.value\nask q a.value\nask r a.value\ndrop q\nask q a.value\ndrop q\nset a.value 3\npin q\nask q a.value\nask r a.value\nundo\nundo\npin s\nask now a.value\nask s a.value\nask r a.value\ndrop nowhere",
+        "1: pinned 0\n2: ok\n3: pinned 1\n4: PinUsed\n5: ok\n6: pinned 2\n7: fault 1.value NoEndpoint\n8: 0\n9: 2\n10: ok\n11: NoPin\n12: NoPin\n13: ok\n14: pinned 3\n15: 3\n16: 2\n17: ok\n18: ok\n19: pinned 5\n20: 0\n21: 0\n22: 2\n23: NoPin\n",
+    ),
+    (
+        "make GameObject g\nmake ComponentEmbedded c\nset c.id \"c\"\nconnect c.component g.components\noverride o g\npin whole\nalias oc c@o\nset oc.id \"mine\"\ndelete g\npin gone\nask whole c@o.id\nask gone c@o.id\nask whole oc.id\nask now oc.id\nundo\nask now c@o.id\nundo\nask now c@o.id\nundo\nask now oc.id\nask whole oc.id\nredo\nask now c@o.id\nredo\nredo\nredo\nask now oc.id\nask whole oc.id",
+        "1: ok\n2: ok\n3: ok\n4: ok\n5: ok\n6: pinned 5\n7: ok\n8: ok\n9: ok\n10: pinned 7\n11: \"c\"\n12: NoName\n13: \"c\"\n14: fault 4.id NoEndpoint\n15: ok\n16: \"mine\"\n17: ok\n18: \"c\"\n19: ok\n20: fault 4.id NoEndpoint\n21: \"c\"\n22: ok\n23: \"c\"\n24: ok\n25: ok\n26: NothingToRedo\n27: fault 4.id NoEndpoint\n28: \"c\"\n",
+    ),
+    (
+        "make ScriptFile a\nset a:speed number \"1\"\nundo\nundo\nask now a:speed\nmake Num b\nask now b.value\nask now a.value\nredo\nalias c a\nask now c.value\nset c.value 1\nundo\nredo\nbegin\nmake Num d\nset d.value 4\nmake Num d\nend\nundo\nask now d.value\nredo\nask now d.value\nbegin\nend\nundo\nset d.value 1\nredo\nbegin\nset b.value 2\nset b.value 3\nend\nundo\nask now b.value\nredo\nask now b.value\nundo\nset b.value 5\nredo\nask now b.value",
+        "1: ok\n2: ok\n3: ok\n4: ok\n5: fault 1:speed NoEndpoint\n6: ok\n7: 0\n8: fault 1.value NoEndpoint\n9: NothingToRedo\n10: ok\n11: fault 1.value NoEndpoint\n12: refused step 1 NoNode\n13: ok\n14: ok\n15: ok\n20: ok\n21: fault 4.value NoEndpoint\n22: ok\n23: 0\n24: Empty\n26: ok\n27: refused step 1 NoNode\n28: ok\n29: ok\n33: ok\n34: 0\n35: ok\n36: 3\n37: ok\n38: ok\n39: NothingToRedo\n40: 5\n",
+    ),
+];
+
 #[test]
 fn scripts_are_read_in_every_spelling(rt: HostRuntime) -> Result<(), Fail> {
     assert!(rt; all_end(rt.alloc(), &SPELLED)?);
@@ -318,17 +351,79 @@ fn overrides_follow_their_originals(rt: HostRuntime) -> Result<(), Fail> {
     Ok(())
 }
 
-static REFUSED: [(&str, &str); 14] = [
+#[test]
+fn edits_are_undone_and_pins_stay(rt: HostRuntime) -> Result<(), Fail> {
+    assert!(rt; all_end(rt.alloc(), &EDITED)?);
+    Ok(())
+}
+
+/// Whether a script of the same line many times, between a first part and an end, prints a first part,
+/// this text behind each line's number, and an end.
+fn repeats(alloc: Global, parts: &Repeated<'_>) -> Result<bool, AllocError> {
+    let mut script = String::from_str(alloc, parts.first.0)?;
+    let mut text = String::from_str(alloc, parts.first.1)?;
+    for number in parts.from..parts.to {
+        script.push_str(parts.line.0)?;
+        if parts.named {
+            script.push_str(Buffer::new().format(number))?;
+        }
+        script.push_str("\n")?;
+        text.push_str(Buffer::new().format(number))?;
+        text.push_str(parts.line.1)?;
+    }
+    script.push_str(parts.end.0)?;
+    text.push_str(parts.end.1)?;
+    ends(alloc, WORDS, &sound(script.as_str()), 0, text.as_str())
+}
+
+/// What a script with many like lines is made of, and what it prints: a first part, a line for each number,
+/// with the number behind it where it is named, and an end.
+#[derive(Drop)]
+struct Repeated<'a> {
+    first: (&'a str, &'a str),
+    line: (&'a str, &'a str),
+    named: bool,
+    from: u32,
+    to: u32,
+    end: (&'a str, &'a str),
+}
+
+#[test]
+fn a_run_has_at_most_16384_revisions_and_1024_live_pins(rt: HostRuntime) -> Result<(), Fail> {
+    let alloc = rt.alloc();
+    let revisions = Repeated {
+        first: ("make Num a\n", "1: ok\n"),
+        line: ("set a.value 1", ": ok\n"),
+        named: false,
+        from: 2,
+        to: 16384,
+        end: (
+            "set a.value 1\nundo\nbegin\nend\nredo\nset a.frob 1\nmake Num b",
+            "16384: LineFull\n16385: LineFull\n16386: Empty\n16388: NothingToRedo\n16389: refused step 1 NoLabel\n16390: LineFull\n",
+        ),
+    };
+    assert!(rt; repeats(alloc, &revisions)?);
+    let pins = Repeated {
+        first: ("", ""),
+        line: ("pin p", ": pinned 0\n"),
+        named: true,
+        from: 1,
+        to: 1025,
+        end: (
+            "pin q\ndrop p7\npin p8\npin q\npin p7",
+            "1025: PinsFull\n1026: ok\n1027: PinUsed\n1028: pinned 0\n1029: PinsFull\n",
+        ),
+    };
+    assert!(rt; repeats(alloc, &pins)?);
+    Ok(())
+}
+
+static REFUSED: [(&str, &str); 9] = [
     ("begin\nmake Num a\n", "error: script line 1 OpenBlock\n"),
     ("frob\n", "error: script line 1 Word\n"),
     ("begin\nundo\nend\n", "error: script line 2 InBlock\n"),
     ("make Num 1a\n", "error: script line 1 Value\n"),
     ("undo\n\nmake Num\n", "error: script line 3 Arity\n"),
-    ("undo\n", NOT_BUILT),
-    ("make Num a\nredo\n", NOT_BUILT),
-    ("pin p\n", NOT_BUILT),
-    ("drop p\n", NOT_BUILT),
-    ("make Sum s\nask p s.total\n", NOT_BUILT),
     ("build a\n", NOT_BUILT),
     ("evict 1\n", NOT_BUILT),
     ("make Collection c\n", NOT_BUILT),
@@ -410,5 +505,127 @@ fn a_text_has_at_most_256_mib(rt: HostRuntime) -> Result<(), Fail> {
         "error: too large text\n",
     )?;
     assert!(rt; refused);
+    Ok(())
+}
+
+/// Files, and what their formatting prints and ends with. The first four are those of the examples.
+static FORMATTED: [(&str, &str, u8, &str); 16] = [
+    (
+        "/hero.go",
+        "components {\n  id: \"script\"\n  component: \"/main/hero.script\"\n  position {\n    x: 1.5\n    y: -2.0e-1\n    z: 0.0\n  }\n  rotation {\n    z: 0.70710677\n    w: 7.0710677E-1\n  }\n  properties {\n    id: \"speed\"\n    value: \"120.0\"\n    type: PROPERTY_TYPE_NUMBER\n  }\n  properties {\n    id: \"home\"\n    value: \"10.0, 20.0, 0.5\"\n    type: PROPERTY_TYPE_VECTOR3\n  }\n  property_decls {\n    number_entries {\n      key: \"speed\"\n      id: 4\n    }\n  }\n}\nembedded_components {\n  id: \"sprite\"\n  type: \"sprite\"\n  data: \"default_animation: \\\"walk\\\"\\n\"\n  \"material: \\\"/builtins/materials/sprite.material\\\"\\n\"\n  \"textures {\\n\"\n  \"  sampler: \\\"texture_sampler\\\"\\n\"\n  \"  texture: \\\"/main/hero.atlas\\\"\\n\"\n  \"}\\n\"\n  \"\"\n  position {\n    z: 1.0E-1\n  }\n}\nembedded_components {\n  id: \"collisionobject\"\n  type: \"collisionobject\"\n  data: \"type: COLLISION_OBJECT_TYPE_KINEMATIC\\n\"\n  \"mass: 0.0\\n\"\n  \"group: \\\"hero\\\"\\n\"\n  \"embedded_collision_shape {\\n\"\n  \"  shapes {\\n\"\n  \"    shape_type: TYPE_BOX\\n\"\n  \"    id: \\\"caf\\303\\251 \\\\\\\"box\\\\\\\"\\\"\\n\"\n  \"  }\\n\"\n  \"  data: 16.0\\n\"\n  \"}\\n\"\n  \"\"\n  rotation {\n    w: 1.0\n  }\n}\n",
+        0,
+        "components {\n  id: \"script\"\n  component: \"/main/hero.script\"\n  position {\n    x: 1.5\n    y: -0.2\n  }\n  rotation {\n    z: 0.70710677\n    w: 0.70710677\n  }\n  properties {\n    id: \"speed\"\n    value: \"120.0\"\n    type: PROPERTY_TYPE_NUMBER\n  }\n  properties {\n    id: \"home\"\n    value: \"10.0, 20.0, 0.5\"\n    type: PROPERTY_TYPE_VECTOR3\n  }\n  property_decls {\n    number_entries {\n      key: \"speed\"\n      id: 4\n    }\n  }\n}\nembedded_components {\n  id: \"sprite\"\n  type: \"sprite\"\n  data: \"default_animation: \\\"walk\\\"\\nmaterial: \\\"/builtins/materials/sprite.material\\\"\\ntextures {\\n  sampler: \\\"texture_sampler\\\"\\n  texture: \\\"/main/hero.atlas\\\"\\n}\\n\"\n  position {\n    z: 0.1\n  }\n}\nembedded_components {\n  id: \"collisionobject\"\n  type: \"collisionobject\"\n  data: \"type: COLLISION_OBJECT_TYPE_KINEMATIC\\nmass: 0.0\\ngroup: \\\"hero\\\"\\nembedded_collision_shape {\\n  shapes {\\n    shape_type: TYPE_BOX\\n    id: \\\"café \\\\\\\"box\\\\\\\"\\\"\\n  }\\n  data: 16.0\\n}\\n\"\n}\n",
+    ),
+    (
+        "/terse.go",
+        "# one line each, with either quote, commas and semicolons\ncomponents: { id: 'a', component: '/main/a.script'; position { x: 1e0, y: +.5; z: -0 } };\n\nembedded_components { id: \"b\"; type: 'label', data: 'text: \"It\\'s\"' ' line \\061\\x0a'; font: \"/a.font\" }  # a field of another tool\n\n# the second `id` counts, and so does the last position\ncomponents {\n  id: \"old\" id: \"c\"\n  component: \"/main/c.factory\"\n  position { x: 9 }\n  position { }\n  properties { id: 'tint', value: '1, 1, 1, 1', type: PROPERTY_TYPE_VECTOR4 }\n  properties { id: 'turn', value: '0, 0, 0, 1', type: PROPERTY_TYPE_QUAT, note { by: hand } }\n}\nversion: 1\n",
+        0,
+        "components {\n  id: \"a\"\n  component: \"/main/a.script\"\n  position {\n    x: 1\n    y: 0.5\n  }\n}\ncomponents {\n  id: \"c\"\n  component: \"/main/c.factory\"\n  properties {\n    id: \"tint\"\n    value: \"1, 1, 1, 1\"\n    type: PROPERTY_TYPE_VECTOR4\n  }\n  properties {\n    id: \"turn\"\n    value: \"0, 0, 0, 1\"\n    type: PROPERTY_TYPE_QUAT\n    note {\n      by: hand\n    }\n  }\n}\nembedded_components {\n  id: \"b\"\n  type: \"label\"\n  data: \"text: \\\"It's\\\" line 1\\n\"\n  font: \"/a.font\"\n}\nversion: 1\n",
+    ),
+    (
+        "/level.collection",
+        "name: \"level\"\ninstances {\n  id: \"hero\"\n  prototype: \"/main/hero.go\"\n  position {\n    x: 480.0\n    y: 3.2e2\n  }\n  children: \"lamp\"\n  children: \"shadow\"\n  component_properties {\n    id: \"script\"\n    properties {\n      id: \"speed\"\n      value: \"1.5e2\"\n      type: PROPERTY_TYPE_NUMBER\n    }\n    properties {\n      id: \"target\"\n      value: \"main:/door#script\"\n      type: PROPERTY_TYPE_URL\n    }\n  }\n  scale3 {\n    x: 2.0\n    y: 2.0\n    z: 1.0\n  }\n}\ninstances {\n  id: \"door\"\n  prototype: \"/main/door.go\"\n  scale: 5.0E-1\n}\ncollection_instances {\n  id: \"north\"\n  collection: \"/main/room.collection\"\n  position {\n    x: 0.0\n    y: 1024.0\n    z: 0.0\n  }\n  rotation {\n    x: 0.0\n    y: 0.0\n    z: 1.0\n    w: 0.0\n  }\n  scale3 {\n    x: 1.0\n    y: 1.0\n    z: 1.0\n  }\n  instance_properties {\n    id: \"chest/lid\"\n    properties {\n      id: \"script\"\n      properties {\n        id: \"locked\"\n        value: \"true\"\n        type: PROPERTY_TYPE_BOOLEAN\n      }\n      properties {\n        id: \"sound\"\n        value: \"creak\"\n        type: PROPERTY_TYPE_HASH\n      }\n    }\n  }\n}\nscale_along_z: 1\nembedded_instances {\n  id: \"lamp\"\n  data: \"embedded_components {\\n\"\n  \"  id: \\\"light\\\"\\n\"\n  \"  type: \\\"sprite\\\"\\n\"\n  \"  data: \\\"default_animation: \\\\\\\"glow\\\\\\\"\\\\n\"\n  \"material: \\\\\\\"/builtins/materials/sprite.material\\\\\\\"\\\\n\"\n  \"\\\"\\n\"\n  \"  position {\\n\"\n  \"    y: 12.0\\n\"\n  \"  }\\n\"\n  \"}\\n\"\n  \"\"\n  position {\n    x: -4.0\n    y: 16.0\n    z: 1.0E-4\n  }\n}\nembedded_instances {\n  id: \"shadow\"\n  children: \"lamp\"\n  data: \"components {\\n  id: \\\"shade\\\"\\n  component: \\\"/main/shade.script\\\"\\n}\\n\"\n  rotation {\n    w: 9.0E-1\n    z: -4.3588990E-1\n  }\n}\n",
+        0,
+        "name: \"level\"\nscale_along_z: 1\ninstances {\n  id: \"hero\"\n  prototype: \"/main/hero.go\"\n  children: \"lamp\"\n  children: \"shadow\"\n  position {\n    x: 480\n    y: 320\n  }\n  scale3 {\n    x: 2\n    y: 2\n  }\n  component_properties {\n    id: \"script\"\n    properties {\n      id: \"speed\"\n      value: \"1.5e2\"\n      type: PROPERTY_TYPE_NUMBER\n    }\n    properties {\n      id: \"target\"\n      value: \"main:/door#script\"\n      type: PROPERTY_TYPE_URL\n    }\n  }\n}\ninstances {\n  id: \"door\"\n  prototype: \"/main/door.go\"\n  scale3 {\n    x: 0.5\n    y: 0.5\n    z: 0.5\n  }\n}\nembedded_instances {\n  id: \"lamp\"\n  data: \"embedded_components {\\n  id: \\\"light\\\"\\n  type: \\\"sprite\\\"\\n  data: \\\"default_animation: \\\\\\\"glow\\\\\\\"\\\\nmaterial: \\\\\\\"/builtins/materials/sprite.material\\\\\\\"\\\\n\\\"\\n  position {\\n    y: 12.0\\n  }\\n}\\n\"\n  position {\n    x: -4\n    y: 16\n    z: 0.0001\n  }\n}\nembedded_instances {\n  id: \"shadow\"\n  children: \"lamp\"\n  data: \"components {\\n  id: \\\"shade\\\"\\n  component: \\\"/main/shade.script\\\"\\n}\\n\"\n  rotation {\n    z: -0.4358899\n    w: 0.9\n  }\n}\ncollection_instances {\n  id: \"north\"\n  collection: \"/main/room.collection\"\n  position {\n    y: 1024\n  }\n  rotation {\n    z: 1\n    w: 0\n  }\n  instance_properties {\n    id: \"chest/lid\"\n    properties {\n      id: \"script\"\n      properties {\n        id: \"locked\"\n        value: \"true\"\n        type: PROPERTY_TYPE_BOOLEAN\n      }\n      properties {\n        id: \"sound\"\n        value: \"creak\"\n        type: PROPERTY_TYPE_HASH\n      }\n    }\n  }\n}\n",
+    ),
+    (
+        "/turned.collection",
+        "# a scale that stands before and behind three scales, and a name in two parts\nname: \"tur\" 'ned'\nscale_along_z: false\ninstances {\n  id: \"a\"\n  prototype: \"/main/hero.go\"\n  scale: 3\n  scale3 { z: 0.000000001 }\n}\ncollection_instances {\n  scale3 { }\n  scale: 2.0\n  collection: \"/main/level.collection\"\n  id: \"level\"\n}\nembedded_instances { id: \"empty\" data: \"\" scale: 0.25 }\n",
+        0,
+        "name: \"turned\"\ninstances {\n  id: \"a\"\n  prototype: \"/main/hero.go\"\n  scale3 {\n    z: 0.000000001\n  }\n}\nembedded_instances {\n  id: \"empty\"\n  data: \"\"\n  scale3 {\n    x: 0.25\n    y: 0.25\n    z: 0.25\n  }\n}\ncollection_instances {\n  id: \"level\"\n  collection: \"/main/level.collection\"\n}\n",
+    ),
+    (
+        "/p.go",
+        "components { id:\"p\" component:'/p.script' scale { x: 2.0 } position { x: 1e1 y:0.0 } }",
+        0,
+        "components {\n  id: \"p\"\n  component: \"/p.script\"\n  position {\n    x: 10\n  }\n  scale {\n    x: 2.0\n  }\n}\n",
+    ),
+    (
+        "/p.go",
+        "components { id:\"p\" component:'/p.script' scale { x: 2.0 } position { x: 1e1",
+        3,
+        "error: file line 1 Unclosed\n",
+    ),
+    (
+        "/m.collection",
+        "name:\"m\" zeta:1 name:'n'",
+        0,
+        "name: \"n\"\nzeta: 1\n",
+    ),
+    (
+        "/p.go",
+        "components { id: \"p\" }",
+        3,
+        "error: file line 1 Missing\n",
+    ),
+    ("/p.go", "\n\ncomponents: 1", 3, "error: file line 3 Form\n"),
+    ("/p.go", "\n}", 3, "error: file line 2 Token\n"),
+    ("/p.go", "", 0, ""),
+    ("/p.go", "z: 1", 0, "z: 1\n"),
+    ("/m.collection", "", 3, "error: file line 1 Missing\n"),
+    (
+        "/d/m.collection",
+        "name: \"a\\\"b\" # a comment\n",
+        0,
+        "name: \"a\\\"b\"\n",
+    ),
+    ("/p.txt", "z: 1", 1, "error: usage\n"),
+    ("/d/../p.go", "z: 1", 1, "error: usage\n"),
+];
+
+/// Whether a run that formats a file ends with the status, having printed just the text.
+fn formats(
+    alloc: Global,
+    path: &str,
+    text: &[u8],
+    status: u8,
+    printed: &str,
+) -> Result<bool, AllocError> {
+    let mut words = String::from_str(alloc, "format ")?;
+    words.push_str(path)?;
+    let outside = Outside {
+        path,
+        script: text,
+        failing_read: 0,
+        failing_put: 0,
+        most: 7,
+    };
+    ends(alloc, words.as_str(), &outside, status, printed)
+}
+
+#[test]
+fn files_are_printed_in_canonical_form(rt: HostRuntime) -> Result<(), Fail> {
+    let alloc = rt.alloc();
+    for (path, text, status, printed) in &FORMATTED {
+        assert!(rt;
+            formats(alloc, path, text.as_bytes(), *status, printed)?,
+            "{path} {text}"
+        );
+    }
+    assert!(rt; formats(alloc, "/p.go", b"z: \xff", 3, "error: file line 0 Utf8\n")?);
+    let outside = sound("");
+    assert!(rt; ends(alloc, "format /none.go", &outside, 2, "error: no input\n")?);
+    // A path gets its slash.
+    let outside = Outside {
+        path: "/p.go",
+        script: b"z: 1",
+        failing_read: 0,
+        failing_put: 0,
+        most: 7,
+    };
+    assert!(rt; ends(alloc, "format p.go", &outside, 0, "z: 1\n")?);
+    // A comment of 32 bytes, 32,768 times, is 1 MiB.
+    let text = script_of(alloc, "", "# a comment of thirty-one bytes\n", 32768, "")?;
+    assert!(rt; formats(alloc, "/p.go", text.as_bytes(), 0, "")?);
+    let text = script_of(alloc, "", "# a comment of thirty-one bytes\n", 32768, "#")?;
+    assert!(rt;
+        formats(
+            alloc,
+            "/p.go",
+            text.as_bytes(),
+            7,
+            "error: too large file\n"
+        )?
+    );
     Ok(())
 }

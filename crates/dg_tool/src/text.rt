@@ -1,9 +1,9 @@
 //! The printed texts of refusals and lines. Each call puts its text behind what is there.
 ghost use Rattle.std.specs.Prelude.{◌≡◌, ◌++◌, codes, IfOk, OnOk};
 ghost use Rattle.dg_tool.specs.Halts.{error_line, limit_text};
-ghost use Rattle.dg_tool.specs.Text.{missing_text, code_text, refused_text, bad_code_text, bad_line_text};
+ghost use Rattle.dg_tool.specs.Text.{missing_text, code_text, refused_text, pinned_text, bad_code_text, bad_file_text, bad_line_text, file_code_text};
 
-use crate::halt::Limit;
+use crate::halt::{FileCode, Limit};
 use dg_base::TxCode;
 use dg_bind::Missing;
 use dg_files::Bytes;
@@ -22,6 +22,14 @@ pub(crate) fn put_refused(out: &mut Vec<u8>, step: u32, why: &str) -> Result<(),
     out.extend_from_slice(Buffer::new().format(step).as_bytes())?;
     out.extend_from_slice(b" ")?;
     out.extend_from_slice(why.as_bytes())
+}
+
+/// A pin that is taken, by the number of its revision.
+pub(crate) fn put_pinned(out: &mut Vec<u8>, number: u32) -> Result<(), AllocError>
+    ensures { OnOk result (out.new.items ≡ out.old.items ++ pinned_text number) }
+{
+    out.extend_from_slice(b"pinned ")?;
+    out.extend_from_slice(Buffer::new().format(number).as_bytes())
 }
 
 pub(crate) fn missing_text(missing: Missing) -> &'static str
@@ -85,6 +93,30 @@ pub(crate) fn bad_line(alloc: Global, line: u32, code: ScriptCode) -> Result<Byt
     error(alloc, what.as_slice())
 }
 
+fn file_code_text(code: FileCode) -> &'static str
+    ensures { result.now ≡ file_code_text code }
+{
+    match code {
+        FileCode::Utf8 => "Utf8",
+        FileCode::Token => "Token",
+        FileCode::Nesting => "Nesting",
+        FileCode::Unclosed => "Unclosed",
+        FileCode::Missing => "Missing",
+        FileCode::Form => "Form",
+    }
+}
+
+/// The error line of a file that can't be read.
+pub(crate) fn bad_file(alloc: Global, line: u32, code: FileCode) -> Result<Bytes, AllocError>
+    ensures { IfOk result (λ l. l ≡ error_line (bad_file_text line code)) }
+{
+    let mut what = Vec::from_slice(alloc, b"file line ")?;
+    what.extend_from_slice(Buffer::new().format(line).as_bytes())?;
+    what.extend_from_slice(b" ")?;
+    what.extend_from_slice(file_code_text(code).as_bytes())?;
+    error(alloc, what.as_slice())
+}
+
 /// The error line of what is too large.
 pub(crate) fn too_large(alloc: Global, limit: Limit) -> Result<Bytes, AllocError>
     ensures { IfOk result (λ l. l ≡ error_line (codes "too large " ++ limit_text limit)) }
@@ -100,6 +132,7 @@ fn limit_text(limit: Limit) -> &'static str
     match limit {
         Limit::Script => "script",
         Limit::Lines => "lines",
+        Limit::File => "file",
         Limit::Text => "text",
     }
 }

@@ -1,5 +1,5 @@
 use Rattle.std.proofs.Common.{◌≡◌, drop}
-use Rattle.dg_tool.specs.Play.{are_built}
+use Rattle.dg_tool.specs.Built.{are_built}
 use Rattle.dg_tool.proofs.built.are_built.Given as goal
 
 abbrev pub invariant-loop-command : goal.invariant-loop-command

@@ -1,6 +1,6 @@
 use Rattle.std.proofs.Common.{◌≡◌, drop}
 use Rattle.std.specs.List.{list_all}
-use Rattle.dg_tool.specs.Play.{is_step_built}
+use Rattle.dg_tool.specs.Built.{is_step_built}
 use Rattle.dg_tool.proofs.built.are_steps_built.Given as goal
 
 abbrev pub invariant-loop-step : goal.invariant-loop-step

@@ -2,15 +2,15 @@ use Rattle.std.proofs.Common.{◌≡◌, ◌+◌, ◌<◌, List, ℕ, length, ma
 use Rattle.std.specs.List.{take-map}
 use Rattle.std.proofs.lemmas.List.{length-map, get_or-map}
 use Rattle.dg_kinds_go.specs.Go.{go_tables}
-use Rattle.dg_tool.specs.declared.reply.Line.{Line}
-use Rattle.dg_tool.specs.Text.{text_of}
-use Rattle.dg_tool.specs.Out.{line_text, max_text}
-use Rattle.dg_tool.specs.Seen.{line_of}
+use Rattle.dg_play.specs.declared.reply.Line.{Line}
+use Rattle.dg_tool.specs.Text.{max_text, text_of}
+use Rattle.dg_tool.specs.Out.{line_text}
+use Rattle.dg_play.specs.Seen.{line_of}
 use Rattle.dg_tool.proofs.TextSizes.{too_much}
 use Rattle.dg_tool.proofs.lines.printed.Goals as goal
 
 pub returns-in_default : goal.returns-in_default
-returns-in_default g c =
+returns-in_default c =
     let text : Line → List ℕ = λ l. line_text go_tables c.args.names.now (line_of l) in
     let ls = map text c.args.lines.now in
     let i = c.loop-line.line-index in

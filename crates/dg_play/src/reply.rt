@@ -1,0 +1,55 @@
+//! What a command prints.
+ghost use Rattle.std.specs.Prelude.{◌≡◌};
+ghost use Rattle.dg_play.specs.Play.{refusal_reply};
+ghost use Rattle.dg_play.specs.Seen.{reply_of};
+
+use crate::answered::Answered;
+use dg_base::TxCode;
+use dg_bind::Missing;
+use dg_editor::EditCause;
+
+/// What a command prints: a text that is known at once, or the answer that was asked for.
+#[derive(Drop)]
+pub enum Reply {
+    Done,
+    Empty,
+    LineFull,
+    NothingToUndo,
+    NothingToRedo,
+    NoName,
+    NoLabel,
+    /// A step, counted from 1, names what isn't there.
+    Misses { step: u32, missing: Missing },
+    /// A step, counted from 1, can't be done.
+    Refused { step: u32, code: TxCode },
+    PinUsed,
+    PinsFull,
+    /// A pin is at the revision with this number.
+    PinnedAt { number: u32 },
+    NoPin,
+    NotBuilt,
+    Answers(Answered),
+}
+
+/// A command's line in the script, with what the command prints.
+#[derive(Drop)]
+pub struct Line {
+    pub number: u32,
+    pub reply: Reply,
+}
+
+/// What is printed of a call that the editor refuses.
+pub(crate) fn refusal_reply(cause: EditCause) -> Reply
+    ensures { reply_of result ≡ refusal_reply cause }
+{
+    match cause {
+        EditCause::Empty => Reply::Empty,
+        EditCause::LineFull => Reply::LineFull,
+        EditCause::NothingToUndo => Reply::NothingToUndo,
+        EditCause::NothingToRedo => Reply::NothingToRedo,
+        EditCause::Refused(refused) => Reply::Refused {
+            step: refused.step,
+            code: refused.code,
+        },
+    }
+}
