@@ -10,7 +10,7 @@ use Rattle.dg_history.specs.History.{History, latest, undone_from, undone, redon
 use Rattle.dg_line.specs.Revisions.{Seen, followed}
 use Rattle.dg_editor.specs.declared.cause.EditCause.{EditCause}
 use Rattle.dg_editor.specs.declared.cause.EditCause.TheVariants as edit
-use Rattle.dg_editor.specs.Changes.{Changed}
+use Rattle.dg_editor.specs.Changes.{Changed, touched_first}
 use Rattle.dg_editor.specs.Machine.{State, advanced, returned, undo_of, redo_of}
 use Rattle.dg_editor.specs.Fits.{Lead, IsBelow, IsRight}
 use Rattle.dg_editor.specs.Laws.{RedoGivesBack, UndoGivesBack}
@@ -20,6 +20,13 @@ use Rattle.dg_editor.proofs.Rights.{no-limit, limit, room-gives, state-is, advan
 latest-first : (cs : List Changed) (c : Changed) → latest cs ≡ Some c → cs ≡ c ∷ drop 1 cs
 latest-first [] c e = let no : ⊥ = cc in absurd no
 latest-first (d ∷ cs) c e = let same : d ≡ c = cc in ap (λ (x : Changed). x ∷ cs) same
+
+latest-one : (cs : List Changed) (c d : Changed) → latest cs ≡ Some c → latest cs ≡ Some d → c ≡ d
+latest-one cs c d e f = cc
+
+pub touched-first : (cs : List Changed) (c : Changed) → latest cs ≡ Some c → c.touched ≡ touched_first cs
+touched-first [] c e = let no : ⊥ = cc in absurd no
+touched-first (d ∷ cs) c e = let same : d ≡ c = cc in ap (λ (x : Changed). x.touched) (sym same)
 
 module _ (t : Tables) (s : State) (nothing : EditCause) (graph : Changed → Graph) (history : History Changed) where
   pub return-nothing : (cs : List Changed) → latest cs ≡ None → returned t s nothing graph cs history ≡ Err nothing
@@ -51,6 +58,7 @@ pub record AfterUndo (t : Tables) (s new : State) : Type 0 where
   pub gives : undo_of t s ≡ Ok new
   pub right : IsRight t new
   pub back : RedoGivesBack t new s.now
+  pub near : (c : Changed) → latest s.history.undo ≡ Some c → c.after ≡ s.now.graph
 
 undone-right : (t : Tables) (s : State) → IsRight t s → (c : Changed) → latest s.history.undo ≡ Some c → IsSound t c.before → s.now.number + 1 < REVISIONS →
     AfterUndo t s (advanced t s c.before s.now.next c.touched (undone s.history))
@@ -70,6 +78,7 @@ undone-right t s r c e sound room =
           (refl, subst (λ (g : Graph). Lead (λ d. d.before) (λ d. d.after) g s.history.redo) (sym to.0) r.from)
           (All-tail (IsBelow s.now.next) c us below) (All-cons (IsBelow s.now.next) c s.history.redo both r.redo_below);
       back = λ again e. let is_to = return-to t next edit.NothingToRedo (λ d. d.after) (redone next.history) c s.history.redo again e in (is_to.0 ∙ to.0, is_to.1);
+      near = λ d f. let same : c ≡ d = latest-one s.history.undo c d e f in ap (λ (x : Changed). x.after) (sym same) ∙ to.0;
     })
 
 pub undo-done : {N M : Type 0} (t : Tables) (old new : Editing N M) → IsRight t (state_of old) → old.here.revision.number + 1 < REVISIONS →
@@ -89,6 +98,7 @@ pub record AfterRedo (t : Tables) (s new : State) : Type 0 where
   pub gives : redo_of t s ≡ Ok new
   pub right : IsRight t new
   pub back : UndoGivesBack t new s.now
+  pub near : (c : Changed) → latest s.history.redo ≡ Some c → c.before ≡ s.now.graph
 
 redone-right : (t : Tables) (s : State) → IsRight t s → (c : Changed) → latest s.history.redo ≡ Some c → IsSound t c.after → s.now.number + 1 < REVISIONS →
     AfterRedo t s (advanced t s c.after s.now.next c.touched (redone s.history))
@@ -108,6 +118,7 @@ redone-right t s r c e sound room =
           (refl, subst (λ (g : Graph). Lead (λ d. d.after) (λ d. d.before) g s.history.undo) (sym from.0) r.to) from.1
           (All-cons (IsBelow s.now.next) c s.history.undo both r.undo_below) (All-tail (IsBelow s.now.next) c rs below);
       back = λ again e. let is_to = return-to t next edit.NothingToUndo (λ d. d.before) (undone next.history) c s.history.undo again e in (is_to.0 ∙ from.0, is_to.1);
+      near = λ d f. let same : c ≡ d = latest-one s.history.redo c d e f in ap (λ (x : Changed). x.before) (sym same) ∙ from.0;
     })
 
 pub redo-done : {N M : Type 0} (t : Tables) (old new : Editing N M) → IsRight t (state_of old) → old.here.revision.number + 1 < REVISIONS →

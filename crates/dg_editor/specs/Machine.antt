@@ -68,6 +68,11 @@ abbrev pub made_by : Result Applied RefusedStep → List NodeId
 made_by (Ok a) = a.made
 made_by (Err r) = []
 
+-- and what they touched
+abbrev pub touched_by : Result Applied RefusedStep → List Endpoint
+touched_by (Ok a) = a.touched
+touched_by (Err r) = []
+
 -- ---- an undo and a redo: back to a graph that was kept. No step is done again, and no id is given anew
 
 -- to the graph that the latest of these changes has, if there is one

@@ -5,7 +5,9 @@ ghost use Rattle.dg_base.specs.Refusal.{Gives};
 ghost use Rattle.dg_base.specs.Transact.{applied};
 ghost use Rattle.dg_line.specs.Revisions.{Seen};
 ghost use Rattle.dg_line.specs.Tickets.{Pin};
-ghost use Rattle.dg_editor.specs.Machine.{edited, made_by, opened, redo_of, undo_of};
+ghost use Rattle.dg_touch.specs.Laws.{RulesAgreeOutside};
+ghost use Rattle.dg_editor.specs.Changes.{touched_first};
+ghost use Rattle.dg_editor.specs.Machine.{edited, made_by, opened, redo_of, touched_by, undo_of};
 ghost use Rattle.dg_editor.specs.Fits.{IsRight};
 ghost use Rattle.dg_editor.specs.Seeing.{IsUnchanged, state_of};
 ghost use Rattle.dg_editor.specs.Laws.{RedoGivesBack, UndoGivesBack};
@@ -121,6 +123,7 @@ impl<S: Schema, N: Line<Revision<S>> + Drop> Editor<S, N> {
         ensures from { IfOk result (λ c. c.link.from ≡ self.old.here) }
         ensures to { IfOk result (λ c. c.link.to ≡ self.new.here) }
         ensures made { IfOk result (λ c. made_by (applied S.tables self.old.here.revision.graph self.old.here.revision.next steps.now) ≡ c.made) }
+        ensures changes { IfOk result (λ c. RulesAgreeOutside S.tables self.old.here.revision.graph self.new.here.revision.graph (touched_by (applied S.tables self.old.here.revision.graph self.old.here.revision.next steps.now))) }
         ensures refused { OnErr result (IsUnchanged self.old self.new) }
         ensures stays { (t : Pin Seen N.Mark) → N.is_of self.old.line t → N.is_of self.new.line t }
     {
@@ -158,6 +161,7 @@ impl<S: Schema, N: Line<Revision<S>> + Drop> Editor<S, N> {
         ensures undone { Gives (λ l. state_of self.new) result (undo_of S.tables (state_of self.old)) }
         ensures from { IfOk result (λ l. l.from ≡ self.old.here) }
         ensures to { IfOk result (λ l. l.to ≡ self.new.here) }
+        ensures changes { IfOk result (λ l. RulesAgreeOutside S.tables self.old.here.revision.graph self.new.here.revision.graph (touched_first self.old.history.undo)) }
         ensures back { IfOk result (λ l. RedoGivesBack S.tables (state_of self.new) self.old.here.revision) }
         ensures refused { OnErr result (IsUnchanged self.old self.new) }
         ensures stays { (t : Pin Seen N.Mark) → N.is_of self.old.line t → N.is_of self.new.line t }
@@ -189,6 +193,7 @@ impl<S: Schema, N: Line<Revision<S>> + Drop> Editor<S, N> {
         ensures redone { Gives (λ l. state_of self.new) result (redo_of S.tables (state_of self.old)) }
         ensures from { IfOk result (λ l. l.from ≡ self.old.here) }
         ensures to { IfOk result (λ l. l.to ≡ self.new.here) }
+        ensures changes { IfOk result (λ l. RulesAgreeOutside S.tables self.old.here.revision.graph self.new.here.revision.graph (touched_first self.old.history.redo)) }
         ensures back { IfOk result (λ l. UndoGivesBack S.tables (state_of self.new) self.old.here.revision) }
         ensures refused { OnErr result (IsUnchanged self.old self.new) }
         ensures stays { (t : Pin Seen N.Mark) → N.is_of self.old.line t → N.is_of self.new.line t }

@@ -25,12 +25,13 @@ pub struct Ended {
 }
 
 /// Does what the words of a command line say, on this thread alone: reads the script, plays it, and
-/// puts its lines. Nothing is written to the files. It waits for nobody and always returns.
+/// puts its lines, or formats a file. Nothing is written to the files. It waits for nobody and always returns.
 ///
 /// A count of failures that stands at its greatest, 2^64 - 1, can't rise, so there a failure can't be
 /// told from none; below it, `complete` says that nothing is hidden.
 ///
-/// In time linear in the script and the output and, for each `connect` and `ask`, in the graph so far.
+/// In time linear in the script and the output and, for each transaction and each endpoint that an `ask`
+/// evaluates, in the graph so far.
 pub fn run_alone<F: Files, S: Sink, L: Ledger>(
     alloc: Global,
     words: &[String],

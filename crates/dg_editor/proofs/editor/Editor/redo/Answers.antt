@@ -4,11 +4,13 @@ use Rattle.dg_base.specs.Graph.{Graph}
 use Rattle.dg_base.specs.Sound.{IsSound}
 use Rattle.dg_line.specs.Revisions.{Seen, followed}
 use Rattle.dg_line.specs.Tickets.{Pin}
+use Rattle.dg_touch.specs.Laws.{RulesAgreeOutside}
+use Rattle.dg_editor.specs.Changes.{touched_first}
 use Rattle.dg_editor.specs.Machine.{redo_of}
 use Rattle.dg_editor.specs.Laws.{UndoGivesBack}
 use Rattle.dg_editor.specs.Seeing.{Editing, state_of}
 use Rattle.dg_editor.proofs.Passing.{pushed-reverse, pushed-all}
-use Rattle.dg_editor.proofs.Returning.{AfterRedo, redo-done}
+use Rattle.dg_editor.proofs.Returning.{touched-first, AfterRedo, redo-done}
 use Rattle.dg_editor.proofs.editor.Editor.redo.Given.{Over}
 use Rattle.dg_editor.proofs.editor.Editor.redo.Goals as goal
 
@@ -64,3 +66,14 @@ returns-clause-back g c =
 pub returns-clause-stays : goal.returns-clause-stays
 returns-clause-stays g c t of =
     c.add_revision.ensures.stays t (subst (λ (e : Editing g.row.N.Denot g.row.N-Mark.Denot). g.N.Line.is_of e.line t) (sym c.self.view_is) of)
+
+pub returns-clause-changes : goal.returns-clause-changes
+returns-clause-changes g c =
+    let d = done g c in
+    let near : c.in-Some.change.now.before ≡ c.self.inside.here.revision.graph = d.near c.in-Some.change.now (sym c.in-Some.ensures) in
+    let far : c.in-Some.change.now.after ≡ (after g c).here.revision.graph = sym (graph g c) ∙ ap (λ (r : Seen). r.graph) (sym (revision g c)) in
+    let touched : c.in-Some.change.now.touched ≡ touched_first c.self.inside.stacks.redo = touched-first c.self.inside.stacks.redo c.in-Some.change.now (sym c.in-Some.ensures) in
+    subst (λ (e : Editing g.row.N.Denot g.row.N-Mark.Denot). RulesAgreeOutside g.S.Schema.tables e.here.revision.graph (after g c).here.revision.graph (touched_first e.history.redo)) c.self.view_is
+    (subst (λ (x : Graph). RulesAgreeOutside g.S.Schema.tables x (after g c).here.revision.graph (touched_first c.self.inside.stacks.redo)) near
+    (subst (λ (x : Graph). RulesAgreeOutside g.S.Schema.tables c.in-Some.change.now.before x (touched_first c.self.inside.stacks.redo)) far
+    (subst (RulesAgreeOutside g.S.Schema.tables c.in-Some.change.now.before c.in-Some.change.now.after) touched c.touched.ensures.done)))

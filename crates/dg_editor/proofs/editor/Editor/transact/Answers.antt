@@ -7,7 +7,8 @@ use Rattle.dg_history.specs.History.{History}
 use Rattle.dg_line.specs.Revisions.{Seen, followed}
 use Rattle.dg_line.specs.Tickets.{Pin}
 use Rattle.dg_editor.specs.Changes.{Changed}
-use Rattle.dg_editor.specs.Machine.{as_cause, change_by, edited, made_by}
+use Rattle.dg_touch.specs.Laws.{RulesAgreeOutside}
+use Rattle.dg_editor.specs.Machine.{as_cause, change_by, edited, made_by, touched_by}
 use Rattle.dg_editor.specs.Fits.{IsRight}
 use Rattle.dg_editor.specs.Seeing.{Editing, state_of}
 use Rattle.dg_editor.proofs.Passing.{pushed-reverse, pushed-all, same-all, not-empty}
@@ -104,3 +105,18 @@ returns-clause-made g c =
 pub returns-clause-stays : goal.returns-clause-stays
 returns-clause-stays g c t of =
     c.add_revision.ensures.stays t (subst (λ (e : Editing g.row.N.Denot g.row.N-Mark.Denot). g.N.Line.is_of e.line t) (sym c.self.view_is) of)
+
+pub returns-clause-changes : goal.returns-clause-changes
+returns-clause-changes g c =
+    let t = g.S.Schema.tables in
+    let is : c.of-change.result ≡ change_by (state_of (before g c)) (a g c) = change g c in
+    let new : (a g c).graph ≡ (after g c).here.revision.graph = ap (λ (r : Seen). r.graph) (sym (revision g c)) in
+    let touched : c.touched-2.result.now ≡ touched_by (applied t c.self.inside.here.revision.graph c.self.inside.here.revision.next c.args.steps.now) =
+    c.touched-2.ensures.touched ∙ ap (λ (d : Changed). d.touched) is
+    ∙ sym (ap touched_by (as-applied (applied t c.self.inside.here.revision.graph c.self.inside.here.revision.next c.args.steps.now) (a g c) (is-applied g c)))
+    in
+    subst (λ (e : Editing g.row.N.Denot g.row.N-Mark.Denot).
+    RulesAgreeOutside t e.here.revision.graph (after g c).here.revision.graph (touched_by (applied t e.here.revision.graph e.here.revision.next c.args.steps.now))) c.self.view_is
+    (subst (RulesAgreeOutside t c.self.inside.here.revision.graph (after g c).here.revision.graph) (sym c.touched-2.ensures.touched ∙ touched)
+    (subst (λ (x : Graph). RulesAgreeOutside t c.self.inside.here.revision.graph x c.of-change.result.touched) new
+    (subst (λ (d : Changed). RulesAgreeOutside t d.before d.after c.of-change.result.touched) is c.touched-2.ensures.done)))
