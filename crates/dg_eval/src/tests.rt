@@ -2,8 +2,7 @@
 ghost use Rattle.std.specs.Prelude.{◌≡◌, ◌<◌};
 
 use crate::Context;
-use crate::uses::evaluate_alone;
-use dg_base::{Answer, Datum, Endpoint, Kind, Label, NodeId, NodeRef, Refusal, Step, Steps};
+use dg_base::{Datum, Endpoint, Kind, Label, NodeId, NodeRef, Refusal, Step, Steps};
 use dg_cache::Snapshot;
 use dg_kinds_go::GoKinds;
 use dg_line::{Line, OwnLine, Revision, Ticket, Unmarked};
@@ -104,77 +103,6 @@ fn ticket_of(alloc: Global, graph: Graph<GoKinds>) -> Result<Pinned, AllocError>
     line.push(alloc, first)
 }
 
-// Whether two answers are the same, as they are printed.
-fn are_same(alloc: Global, a: &Answer, b: &Answer) -> Result<bool, AllocError> {
-    let (a, b) = (format!(in alloc; "{a:?}")?, format!(in alloc; "{b:?}")?);
-    Ok(a == b)
-}
-
-// The endpoints of nodes up to this one, and some that aren't there.
-fn ends_up_to(alloc: Global, last: u32) -> Result<Vec<Endpoint>, AllocError> {
-    let mut ends = Vec::new(alloc);
-    for node in 0..last.saturating_add(2) {
-        for label in [1, 2, 4] {
-            ends.push(end(node, Label(label)))?;
-        }
-    }
-    Ok(ends)
-}
-
-// The first of these endpoints whose value in a context of its own, or in one context for all, isn't that of
-// the plain evaluator.
-fn first_wrong<L: Ledger>(
-    alloc: Global,
-    graph: Graph<GoKinds>,
-    ends: &[Endpoint],
-    steps: &mut Steps<L>,
-) -> Result<Option<Endpoint>, AllocError> {
-    let plain = graph.share()?;
-    let ticket = ticket_of(alloc, graph)?;
-    let all = ticket.share()?;
-    let mut context = Context::<GoKinds, Unmarked<Revision<GoKinds>>>::open(
-        alloc,
-        all,
-        Snapshot::none(),
-    );
-    for at in ends {
-        let want = plain.plain_value(*at, steps)?;
-        let alone = evaluate_alone::<GoKinds, Unmarked<Revision<GoKinds>>, L>(
-            alloc, &ticket, *at, steps,
-        )?;
-        let among = context.evaluate(*at, steps)?;
-        if !are_same(alloc, alone.answer(), want.answer())?
-            || !are_same(alloc, among.answer(), want.answer())?
-        {
-            return Ok(Some(*at));
-        }
-    }
-    Ok(None)
-}
-
-fn wrong_in<L: Ledger>(
-    alloc: Global,
-    plan: &Plan,
-    blank: Blank,
-) -> Result<Option<Endpoint>, AllocError>
-    requires name { blank.name ≡ L.name }
-    requires parts { blank.parts ≡ L.parts }
-    requires some { 0 < blank.parts }
-{
-    let mut steps = Steps::<L>::open(blank);
-    let all = steps_of(alloc, plan)?;
-    let Some(graph) = graph_of(alloc, &all)? else {
-        return Ok(Some(end(0, Label(0))));
-    };
-    let last = u32::try_from(plan.kinds.len()).unwrap_or(0);
-    let ends = ends_up_to(alloc, last)?;
-    first_wrong(alloc, graph, &ends, &mut steps)
-}
-
-fn wrong(alloc: Global, plan: &Plan) -> Result<Option<Endpoint>, AllocError> {
-    wrong_in::<Brand>(alloc, plan, Blank::new(1))
-}
-
 // The next of a row of numbers, by a congruence.
 fn next(state: u64) -> u64 {
     state
@@ -215,21 +143,54 @@ fn a_cycle_is_a_cycle_from_either_end(rt: HostRuntime) -> Result<(), Fail> {
         &[(1, 2), (2, 3), (3, 2), (3, 4), (1, 4)],
         &[],
     )?;
-    assert_eq!(rt; wrong(alloc, &plan)?, None);
     let all = steps_of(alloc, &plan)?;
     let values = values_of(alloc, &all, &[2, 3, 4, 3])?;
     assert_eq!(rt; values.as_str(), "Cycle Cycle Cycle Cycle ");
     Ok(())
 }
 
+/// The nodes of a random plan that are sums.
+const SUMS: [u32; 9] = [3, 4, 5, 6, 8, 9, 10, 11, 12];
+
 #[test]
 fn values_are_those_of_the_plain_evaluator(rt: HostRuntime) -> Result<(), Fail> {
     let alloc = rt.alloc();
     for seed in 0..60 {
-        let plan = random_plan(alloc, seed)?;
-        assert_eq!(rt; wrong(alloc, &plan)?, None);
+        let all = steps_of(alloc, &random_plan(alloc, seed)?)?;
+        let values = values_of(alloc, &all, &SUMS)?;
+        assert_eq!(rt;
+            values.as_str(),
+            plain_values_of(alloc, &all, &SUMS)?.as_str()
+        );
     }
     Ok(())
+}
+
+fn plain_totals<L: Ledger>(
+    alloc: Global,
+    graph: &Graph<GoKinds>,
+    nodes: &[u32],
+    blank: Blank,
+) -> Result<String, AllocError>
+    requires name { blank.name ≡ L.name }
+    requires parts { blank.parts ≡ L.parts }
+    requires some { 0 < blank.parts }
+{
+    let mut steps = Steps::<L>::open(blank);
+    let mut text = String::new(alloc);
+    for node in nodes {
+        let value = graph.plain_value(end(*node, Label(4)), &mut steps)?;
+        write!(text, "{:?} ", value.answer())?;
+    }
+    Ok(text)
+}
+
+// The same totals by the plain evaluator.
+fn plain_values_of(alloc: Global, steps: &[Step], nodes: &[u32]) -> Result<String, AllocError> {
+    match graph_of(alloc, steps)? {
+        None => String::from_str(alloc, "refused"),
+        Some(graph) => plain_totals::<Brand>(alloc, &graph, nodes, Blank::new(1)),
+    }
 }
 
 fn printed_totals<L: Ledger>(

@@ -1,6 +1,5 @@
 //! Callers: threads share offers.
 use crate::Offer;
-use dg_base::Schema;
 use dg_kinds_go::GoKinds;
 use dg_line::{Mark, Revision, Unmarked};
 use std::alloc::{AllocError, Global};
@@ -11,10 +10,6 @@ pub(crate) fn shares_offer<M: Mark + Send + Sync>(offer: &Offer<M>)
 where
     M::Of: Send + Sync,
 {
-    is_shared(offer);
-}
-
-pub(crate) fn shares_own_offer<S: Schema + Send + Sync>(offer: &Offer<Unmarked<Revision<S>>>) {
     is_shared(offer);
 }
 
