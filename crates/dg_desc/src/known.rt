@@ -70,374 +70,120 @@ pub enum Form {
 pub struct Row {
     pub name: FieldName,
     pub form: Form,
-    pub repeated: bool,
     pub required: bool,
 }
 
 /// A game object.
+#[rattlefmt::skip]
 pub static GO: [Row; 2] = [
-    Row {
-        name: FieldName::Components,
-        form: Form::Inner(Message::Ref),
-        repeated: true,
-        required: false,
-    },
-    Row {
-        name: FieldName::EmbeddedComponents,
-        form: Form::Inner(Message::Embed),
-        repeated: true,
-        required: false,
-    },
+    Row { name: FieldName::Components, form: Form::Inner(Message::Ref), required: false },
+    Row { name: FieldName::EmbeddedComponents, form: Form::Inner(Message::Embed), required: false },
 ];
 
 /// A component by its path.
+#[rattlefmt::skip]
 pub static REF: [Row; 5] = [
-    Row {
-        name: FieldName::Id,
-        form: Form::Text,
-        repeated: false,
-        required: true,
-    },
-    Row {
-        name: FieldName::Component,
-        form: Form::Text,
-        repeated: false,
-        required: true,
-    },
-    Row {
-        name: FieldName::Position,
-        form: Form::Inner(Message::Vector),
-        repeated: false,
-        required: false,
-    },
-    Row {
-        name: FieldName::Rotation,
-        form: Form::Inner(Message::Quaternion),
-        repeated: false,
-        required: false,
-    },
-    Row {
-        name: FieldName::Properties,
-        form: Form::Inner(Message::Prop),
-        repeated: true,
-        required: false,
-    },
+    Row { name: FieldName::Id, form: Form::Text, required: true },
+    Row { name: FieldName::Component, form: Form::Text, required: true },
+    Row { name: FieldName::Position, form: Form::Inner(Message::Vector), required: false },
+    Row { name: FieldName::Rotation, form: Form::Inner(Message::Quaternion), required: false },
+    Row { name: FieldName::Properties, form: Form::Inner(Message::Prop), required: false },
 ];
 
 /// A component that stands in its file.
+#[rattlefmt::skip]
 pub static EMBED: [Row; 5] = [
-    Row {
-        name: FieldName::Id,
-        form: Form::Text,
-        repeated: false,
-        required: true,
-    },
-    Row {
-        name: FieldName::Type,
-        form: Form::Kind,
-        repeated: false,
-        required: true,
-    },
-    Row {
-        name: FieldName::Data,
-        form: Form::Text,
-        repeated: false,
-        required: true,
-    },
-    Row {
-        name: FieldName::Position,
-        form: Form::Inner(Message::Vector),
-        repeated: false,
-        required: false,
-    },
-    Row {
-        name: FieldName::Rotation,
-        form: Form::Inner(Message::Quaternion),
-        repeated: false,
-        required: false,
-    },
+    Row { name: FieldName::Id, form: Form::Text, required: true },
+    Row { name: FieldName::Type, form: Form::Kind, required: true },
+    Row { name: FieldName::Data, form: Form::Text, required: true },
+    Row { name: FieldName::Position, form: Form::Inner(Message::Vector), required: false },
+    Row { name: FieldName::Rotation, form: Form::Inner(Message::Quaternion), required: false },
 ];
 
 /// A collection.
+#[rattlefmt::skip]
 pub static COLL: [Row; 5] = [
-    Row {
-        name: FieldName::Name,
-        form: Form::Text,
-        repeated: false,
-        required: true,
-    },
-    Row {
-        name: FieldName::ScaleAlongZ,
-        form: Form::Switch,
-        repeated: false,
-        required: false,
-    },
-    Row {
-        name: FieldName::Instances,
-        form: Form::Inner(Message::Inst),
-        repeated: true,
-        required: false,
-    },
-    Row {
-        name: FieldName::EmbeddedInstances,
-        form: Form::Inner(Message::EmbedInst),
-        repeated: true,
-        required: false,
-    },
-    Row {
-        name: FieldName::CollectionInstances,
-        form: Form::Inner(Message::CollInst),
-        repeated: true,
-        required: false,
-    },
+    Row { name: FieldName::Name, form: Form::Text, required: true },
+    Row { name: FieldName::ScaleAlongZ, form: Form::Switch, required: false },
+    Row { name: FieldName::Instances, form: Form::Inner(Message::Inst), required: false },
+    Row { name: FieldName::EmbeddedInstances, form: Form::Inner(Message::EmbedInst), required: false },
+    Row { name: FieldName::CollectionInstances, form: Form::Inner(Message::CollInst), required: false },
 ];
 
 /// An instance of a game object by its path.
+#[rattlefmt::skip]
 pub static INST: [Row; 8] = [
-    Row {
-        name: FieldName::Id,
-        form: Form::Text,
-        repeated: false,
-        required: true,
-    },
-    Row {
-        name: FieldName::Prototype,
-        form: Form::Text,
-        repeated: false,
-        required: true,
-    },
-    Row {
-        name: FieldName::Children,
-        form: Form::Text,
-        repeated: true,
-        required: false,
-    },
-    Row {
-        name: FieldName::Position,
-        form: Form::Inner(Message::Vector),
-        repeated: false,
-        required: false,
-    },
-    Row {
-        name: FieldName::Rotation,
-        form: Form::Inner(Message::Quaternion),
-        repeated: false,
-        required: false,
-    },
-    Row {
-        name: FieldName::Scale,
-        form: Form::Decimal,
-        repeated: false,
-        required: false,
-    },
-    Row {
-        name: FieldName::Scale3,
-        form: Form::Inner(Message::Vector),
-        repeated: false,
-        required: false,
-    },
-    Row {
-        name: FieldName::ComponentProperties,
-        form: Form::Inner(Message::CompProps),
-        repeated: true,
-        required: false,
-    },
+    Row { name: FieldName::Id, form: Form::Text, required: true },
+    Row { name: FieldName::Prototype, form: Form::Text, required: true },
+    Row { name: FieldName::Children, form: Form::Text, required: false },
+    Row { name: FieldName::Position, form: Form::Inner(Message::Vector), required: false },
+    Row { name: FieldName::Rotation, form: Form::Inner(Message::Quaternion), required: false },
+    Row { name: FieldName::Scale, form: Form::Decimal, required: false },
+    Row { name: FieldName::Scale3, form: Form::Inner(Message::Vector), required: false },
+    Row { name: FieldName::ComponentProperties, form: Form::Inner(Message::CompProps), required: false },
 ];
 
 /// An instance of a game object that stands in the collection's file.
+#[rattlefmt::skip]
 pub static EMBED_INST: [Row; 7] = [
-    Row {
-        name: FieldName::Id,
-        form: Form::Text,
-        repeated: false,
-        required: true,
-    },
-    Row {
-        name: FieldName::Children,
-        form: Form::Text,
-        repeated: true,
-        required: false,
-    },
-    Row {
-        name: FieldName::Data,
-        form: Form::Text,
-        repeated: false,
-        required: true,
-    },
-    Row {
-        name: FieldName::Position,
-        form: Form::Inner(Message::Vector),
-        repeated: false,
-        required: false,
-    },
-    Row {
-        name: FieldName::Rotation,
-        form: Form::Inner(Message::Quaternion),
-        repeated: false,
-        required: false,
-    },
-    Row {
-        name: FieldName::Scale,
-        form: Form::Decimal,
-        repeated: false,
-        required: false,
-    },
-    Row {
-        name: FieldName::Scale3,
-        form: Form::Inner(Message::Vector),
-        repeated: false,
-        required: false,
-    },
+    Row { name: FieldName::Id, form: Form::Text, required: true },
+    Row { name: FieldName::Children, form: Form::Text, required: false },
+    Row { name: FieldName::Data, form: Form::Text, required: true },
+    Row { name: FieldName::Position, form: Form::Inner(Message::Vector), required: false },
+    Row { name: FieldName::Rotation, form: Form::Inner(Message::Quaternion), required: false },
+    Row { name: FieldName::Scale, form: Form::Decimal, required: false },
+    Row { name: FieldName::Scale3, form: Form::Inner(Message::Vector), required: false },
 ];
 
 /// An instance of a collection by its path.
+#[rattlefmt::skip]
 pub static COLL_INST: [Row; 7] = [
-    Row {
-        name: FieldName::Id,
-        form: Form::Text,
-        repeated: false,
-        required: true,
-    },
-    Row {
-        name: FieldName::Collection,
-        form: Form::Text,
-        repeated: false,
-        required: true,
-    },
-    Row {
-        name: FieldName::Position,
-        form: Form::Inner(Message::Vector),
-        repeated: false,
-        required: false,
-    },
-    Row {
-        name: FieldName::Rotation,
-        form: Form::Inner(Message::Quaternion),
-        repeated: false,
-        required: false,
-    },
-    Row {
-        name: FieldName::Scale,
-        form: Form::Decimal,
-        repeated: false,
-        required: false,
-    },
-    Row {
-        name: FieldName::Scale3,
-        form: Form::Inner(Message::Vector),
-        repeated: false,
-        required: false,
-    },
-    Row {
-        name: FieldName::InstanceProperties,
-        form: Form::Inner(Message::InstProps),
-        repeated: true,
-        required: false,
-    },
+    Row { name: FieldName::Id, form: Form::Text, required: true },
+    Row { name: FieldName::Collection, form: Form::Text, required: true },
+    Row { name: FieldName::Position, form: Form::Inner(Message::Vector), required: false },
+    Row { name: FieldName::Rotation, form: Form::Inner(Message::Quaternion), required: false },
+    Row { name: FieldName::Scale, form: Form::Decimal, required: false },
+    Row { name: FieldName::Scale3, form: Form::Inner(Message::Vector), required: false },
+    Row { name: FieldName::InstanceProperties, form: Form::Inner(Message::InstProps), required: false },
 ];
 
 /// A property.
+#[rattlefmt::skip]
 pub static PROP: [Row; 3] = [
-    Row {
-        name: FieldName::Id,
-        form: Form::Text,
-        repeated: false,
-        required: true,
-    },
-    Row {
-        name: FieldName::Value,
-        form: Form::Text,
-        repeated: false,
-        required: true,
-    },
-    Row {
-        name: FieldName::Type,
-        form: Form::PropertyType,
-        repeated: false,
-        required: true,
-    },
+    Row { name: FieldName::Id, form: Form::Text, required: true },
+    Row { name: FieldName::Value, form: Form::Text, required: true },
+    Row { name: FieldName::Type, form: Form::PropertyType, required: true },
 ];
 
 /// The properties of a component.
+#[rattlefmt::skip]
 pub static COMP_PROPS: [Row; 2] = [
-    Row {
-        name: FieldName::Id,
-        form: Form::Text,
-        repeated: false,
-        required: true,
-    },
-    Row {
-        name: FieldName::Properties,
-        form: Form::Inner(Message::Prop),
-        repeated: true,
-        required: false,
-    },
+    Row { name: FieldName::Id, form: Form::Text, required: true },
+    Row { name: FieldName::Properties, form: Form::Inner(Message::Prop), required: false },
 ];
 
 /// The properties of the components of an instance.
+#[rattlefmt::skip]
 pub static INST_PROPS: [Row; 2] = [
-    Row {
-        name: FieldName::Id,
-        form: Form::Text,
-        repeated: false,
-        required: true,
-    },
-    Row {
-        name: FieldName::Properties,
-        form: Form::Inner(Message::CompProps),
-        repeated: true,
-        required: false,
-    },
+    Row { name: FieldName::Id, form: Form::Text, required: true },
+    Row { name: FieldName::Properties, form: Form::Inner(Message::CompProps), required: false },
 ];
 
 /// A position, or the scales along three axes.
+#[rattlefmt::skip]
 pub static VECTOR: [Row; 3] = [
-    Row {
-        name: FieldName::X,
-        form: Form::Decimal,
-        repeated: false,
-        required: false,
-    },
-    Row {
-        name: FieldName::Y,
-        form: Form::Decimal,
-        repeated: false,
-        required: false,
-    },
-    Row {
-        name: FieldName::Z,
-        form: Form::Decimal,
-        repeated: false,
-        required: false,
-    },
+    Row { name: FieldName::X, form: Form::Decimal, required: false },
+    Row { name: FieldName::Y, form: Form::Decimal, required: false },
+    Row { name: FieldName::Z, form: Form::Decimal, required: false },
 ];
 
 /// A rotation.
+#[rattlefmt::skip]
 pub static QUATERNION: [Row; 4] = [
-    Row {
-        name: FieldName::X,
-        form: Form::Decimal,
-        repeated: false,
-        required: false,
-    },
-    Row {
-        name: FieldName::Y,
-        form: Form::Decimal,
-        repeated: false,
-        required: false,
-    },
-    Row {
-        name: FieldName::Z,
-        form: Form::Decimal,
-        repeated: false,
-        required: false,
-    },
-    Row {
-        name: FieldName::W,
-        form: Form::Decimal,
-        repeated: false,
-        required: false,
-    },
+    Row { name: FieldName::X, form: Form::Decimal, required: false },
+    Row { name: FieldName::Y, form: Form::Decimal, required: false },
+    Row { name: FieldName::Z, form: Form::Decimal, required: false },
+    Row { name: FieldName::W, form: Form::Decimal, required: false },
 ];
 
 /// The known fields of a message.
