@@ -1,2 +1,10 @@
 pub mod Messages
 pub mod LastFields
+pub mod Groups
+pub mod Numbers
+pub mod Vectors
+pub mod WordValues
+pub mod ReadAgain
+pub mod MessagesAgain
+pub mod PrintsAgain
+pub mod Accepted

@@ -1,5 +1,6 @@
 -- The first fault of a message is that of its fields.
 use Rattle.std.proofs.Common.{◌≡◌, ℕ, List, refl, ap, ◌∙◌}
+use Rattle.std.specs.Option.{option_or}
 use mathlib.Core.Former.{Count}
 use Rattle.dg_ptext.specs.declared.tree.Field.{Field}
 use Rattle.dg_ptext.specs.declared.tree.Value.{Value, Message', Row_of-Field, end_of-Field, more_of-Field, items-the_row-Field, items_hidden-the_row-Field-0}
@@ -8,11 +9,11 @@ use Rattle.dg_desc.specs.declared.known.Message.{Message}
 use Rattle.dg_desc.specs.declared.known.Place.{Place}
 use Rattle.dg_desc.specs.declared.known.Form.TheVariants as form
 use Rattle.dg_desc.specs.Known.{rows_of, place_in}
-use Rattle.dg_desc.specs.Faults.{or_else, missing, message_fault, value_fault, row_fault, fields_fault, fault_of}
+use Rattle.dg_desc.specs.Faults.{missing, message_fault, value_fault, row_fault, fields_fault, fault_of}
 
-of_fields : (m : Message) (n : _) (row : Row_of-Field n) → row_fault m row ≡ fields_fault m (items-the_row-Field n row)
+pub of_fields : (m : Message) (n : _) (row : Row_of-Field n) → row_fault m row ≡ fields_fault m (items-the_row-Field n row)
 of_fields m n end_of-Field = refl
-of_fields m n (more_of-Field name line v rest) = ap (or_else (value_fault (place_in m name) line v)) (of_fields m _ rest)
+of_fields m n (more_of-Field name line v rest) = ap (option_or (value_fault (place_in m name) line v)) (of_fields m _ rest)
 
 abbrev row_of : Value → (n : Count) × Row_of-Field n
 row_of (Message' _ row) = (_, row)
@@ -22,6 +23,6 @@ pub fault-Inner : (place : Place) (m : Message) (line : ℕ) (fields : List Fiel
     → value_fault place line (value.Message fields) ≡ fault_of m line fields
 fault-Inner place m line fields is =
     let row = row_of (value.Message fields) in
-    ap (λ f. message_fault f line place (λ m. or_else (row_fault m row.1) (missing (rows_of m) line (items-the_row-Field row.0 row.1)))) is
-    ∙ ap (λ e. or_else e (missing (rows_of m) line (items-the_row-Field row.0 row.1))) (of_fields m row.0 row.1)
+    ap (λ f. message_fault f line place (λ m. option_or (row_fault m row.1) (missing (rows_of m) line (items-the_row-Field row.0 row.1)))) is
+    ∙ ap (λ e. option_or e (missing (rows_of m) line (items-the_row-Field row.0 row.1))) (of_fields m row.0 row.1)
     ∙ ap (fault_of m line) (items_hidden-the_row-Field-0 fields)

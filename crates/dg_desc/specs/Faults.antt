@@ -2,6 +2,7 @@
 -- those that follow it, and at a message's end the first required field that isn't there.
 use Rattle.std.specs.Prelude.{ℕ, List, [], ◌∷◌, Bool, true, false, not, cond, ◌&&◌, Option, Some, None, is_some, bytes_eq}
 use Rattle.std.specs.List.{list_any}
+use Rattle.std.specs.Option.{option_or}
 use Rattle.dg_ptext.specs.declared.tree.Field.{Field}
 use Rattle.dg_ptext.specs.declared.tree.Value.{Value, Bare, Quoted, Message', Row_of-Field, end_of-Field, more_of-Field, items-the_row-Field}
 use Rattle.dg_desc.specs.declared.known.Message.{Message}
@@ -14,11 +15,6 @@ use Rattle.dg_desc.specs.declared.refusal.DescCode.{DescCode}
 use Rattle.dg_desc.specs.declared.refusal.DescCode.TheVariants as code
 use Rattle.dg_desc.specs.Known.{label_of, rows_of, place_in}
 use Rattle.dg_desc.specs.Words.{is_decimal, type_named, switch_named, is_kind}
-
--- the first of two faults
-abbrev pub or_else : {A : Type 0} → Option A → Option A → Option A
-or_else (Some a) later = Some a
-or_else None later = later
 
 -- ---- what is missing
 
@@ -65,18 +61,18 @@ abbrev mutual
   value_fault place line (Bare word) = unless (fits_bare place.form word) line place
   value_fault place line (Quoted text) = unless (fits_quoted place.form text) line place
   value_fault place line (Message' shape fields) =
-      message_fault place.form line place (λ m. or_else (row_fault m fields) (missing (rows_of m) line (items-the_row-Field _ fields)))
+      message_fault place.form line place (λ m. option_or (row_fault m fields) (missing (rows_of m) line (items-the_row-Field _ fields)))
 
   pub row_fault : {n : _} → Message → Row_of-Field n → Option DescCode
   row_fault m end_of-Field = None
   row_fault m (more_of-Field name line value rest) =
-      or_else (value_fault (place_in m name) line value) (row_fault m rest)
+      option_or (value_fault (place_in m name) line value) (row_fault m rest)
 
 -- the first field of another form
 abbrev pub fields_fault : Message → List Field → Option DescCode
 fields_fault m [] = None
-fields_fault m (f ∷ fs) = or_else (value_fault (place_in m f.name) f.line f.value) (fields_fault m fs)
+fields_fault m (f ∷ fs) = option_or (value_fault (place_in m f.name) f.line f.value) (fields_fault m fs)
 
 -- the first fault of a message whose own field stands on this line
 abbrev pub fault_of : Message → ℕ → List Field → Option DescCode
-fault_of m line fields = or_else (fields_fault m fields) (missing (rows_of m) line fields)
+fault_of m line fields = option_or (fields_fault m fields) (missing (rows_of m) line fields)

@@ -5,3 +5,4 @@ pub mod Faults
 pub mod Lookups
 pub mod Descs
 pub mod Trees
+pub mod Canonical

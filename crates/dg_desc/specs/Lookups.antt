@@ -1,7 +1,7 @@
 -- What the fields of a message without fault give. Of the fields with one name that may stand once the last counts.
 use Rattle.std.specs.Prelude.{ℕ, List, [], ◌∷◌, Bool, false, cond, ℤ, pos, Option, Some, None, is_none, Result, Ok, Err}
 use Rattle.std.specs.List.{filter}
-use Rattle.std.specs.Option.{option_map}
+use Rattle.std.specs.Option.{option_map, option_or}
 use Rattle.dg_base.specs.declared.datum.PType.{PType}
 use Rattle.dg_base.specs.declared.datum.PType.TheVariants as ptype
 use Rattle.dg_base.specs.declared.datum.V3.{V3}
@@ -14,7 +14,7 @@ use Rattle.dg_desc.specs.declared.known.FieldName.{FieldName}
 use Rattle.dg_desc.specs.declared.known.FieldName.TheVariants as name
 use Rattle.dg_desc.specs.Known.{rows_of, row_in}
 use Rattle.dg_desc.specs.Words.{type_named, switch_named}
-use Rattle.dg_desc.specs.Faults.{or_else, is_named}
+use Rattle.dg_desc.specs.Faults.{is_named}
 
 -- ---- fields by their name
 
@@ -24,7 +24,7 @@ here n f = cond (is_named n f) (Some f.value) None
 -- the value of the last field of a name
 abbrev pub last_value : FieldName → List Field → Option Value
 last_value n [] = None
-last_value n (f ∷ fs) = or_else (last_value n fs) (here n f)
+last_value n (f ∷ fs) = option_or (last_value n fs) (here n f)
 
 -- all fields of a name, and all of no known one, in order
 abbrev pub fields_named : FieldName → List Field → List Field

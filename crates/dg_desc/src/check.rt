@@ -1,6 +1,6 @@
 //! The first fault of a message.
 ghost use Rattle.std.specs.Prelude.{◌≡◌};
-ghost use Rattle.dg_desc.specs.Faults.{or_else, is_named, is_there, missing, fits_bare, fits_quoted, unless, value_fault, fields_fault, fault_of};
+ghost use Rattle.dg_desc.specs.Faults.{is_named, is_there, missing, fits_bare, fits_quoted, unless, value_fault, fields_fault, fault_of};
 
 use crate::known::{FieldName, Form, Message, Place, Row, label_of, place_in, rows_of};
 use crate::refusal::DescCode;

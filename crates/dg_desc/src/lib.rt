@@ -18,6 +18,7 @@ mod copying;
 mod descs;
 mod fields;
 mod known;
+mod laws;
 mod lookups;
 mod part;
 mod parts;
@@ -34,6 +35,7 @@ pub use descs::{
     InstPropsDesc, Items, PropDesc, RefDesc,
 };
 pub use known::{FieldName, Form, Message, Place, Row};
+pub use laws::{coll_reads_again, go_reads_again};
 pub use printing::{coll_tree, go_tree};
 pub use reading::{read_coll, read_go};
 pub use refusal::DescCode;

@@ -3,7 +3,9 @@
 ghost use Rattle.std.specs.Prelude.{◌≡◌, [], ◌∷◌, None, Some, codes, pos, true};
 ghost use Rattle.dg_desc.specs.Faults.{fault_of};
 ghost use Rattle.dg_desc.specs.Lookups.{one, evenly, vector_of, scale3_of, text_of};
+ghost use Rattle.dg_desc.specs.Descs.{coll_inst_of};
 ghost use Rattle.dg_desc.specs.Trees.{bare, quoted, scale3_tree, switch_tree};
+ghost use Rattle.dg_desc.specs.Canonical.{differing_vector, differing_rotation, canonical_coll_inst};
 
 use crate::known::{FieldName, Message};
 use crate::refusal::DescCode;
@@ -28,4 +30,15 @@ pub fn counted()
 pub fn printed()
     ensures scale { scale3_tree (Some (evenly one)) ≡ [] }
     ensures switch { switch_tree FieldName.ScaleAlongZ true ≡ bare FieldName.ScaleAlongZ (codes "1") ∷ [] }
+{}
+
+/// A scale that stands there and is the default counts as given. In the canonical form it doesn't, and nothing has a
+/// line.
+#[tactic(auto, unfolding(dg_decimal::specs::Reading::number_in))]
+pub fn canonical()
+    ensures evenly { differing_vector one (Some (evenly one)) ≡ None }
+    ensures scaled { differing_vector one (Some (evenly (pos 0))) ≡ Some (evenly (pos 0)) }
+    ensures turned { differing_rotation (Some (record { x = pos 0; y = pos 0; z = pos 0; w = pos 0 })) ≡ Some (record { x = pos 0; y = pos 0; z = pos 0; w = pos 0 }) }
+    ensures given { (coll_inst_of 3 (quoted FieldName.Id (codes "c") ∷ bare FieldName.Scale (codes "1") ∷ [])).scale3 ≡ Some (evenly one) }
+    ensures kept { canonical_coll_inst (coll_inst_of 3 (quoted FieldName.Id (codes "c") ∷ bare FieldName.Scale (codes "1") ∷ [])) ≡ coll_inst_of 0 (quoted FieldName.Id (codes "c") ∷ []) }
 {}

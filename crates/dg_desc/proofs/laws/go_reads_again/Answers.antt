@@ -1,0 +1,9 @@
+use Rattle.dg_desc.proofs.Accepted as accepted
+use Rattle.dg_desc.proofs.PrintsAgain as printed
+use Rattle.dg_desc.proofs.laws.go_reads_again.Goals as goal
+
+pub returns-clause-read : goal.returns-clause-read
+returns-clause-read c = accepted.go_reads_again
+
+pub returns-clause-printed : goal.returns-clause-printed
+returns-clause-printed c = printed.go_printed
