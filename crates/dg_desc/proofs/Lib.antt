@@ -7,4 +7,7 @@ pub mod WordValues
 pub mod ReadAgain
 pub mod MessagesAgain
 pub mod PrintsAgain
+pub mod SameTrees
+pub mod SameFaults
+pub mod SamePrinted
 pub mod Accepted

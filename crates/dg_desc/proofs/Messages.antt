@@ -19,10 +19,16 @@ abbrev row_of : Value → (n : Count) × Row_of-Field n
 row_of (Message' _ row) = (_, row)
 row_of _ = (_, end_of-Field)
 
+-- a message has the fault that its place finds
+pub fault-Message : (place : Place) (line : ℕ) (fields : List Field)
+    → value_fault place line (value.Message fields) ≡ message_fault place.form line place (λ m. fault_of m line fields)
+fault-Message place line fields =
+    let row = row_of (value.Message fields) in
+    λ i. message_fault place.form line place (λ m. (
+        ap (λ e. option_or e (missing (rows_of m) line (items-the_row-Field row.0 row.1))) (of_fields m row.0 row.1)
+        ∙ ap (fault_of m line) (items_hidden-the_row-Field-0 fields)) i)
+
 pub fault-Inner : (place : Place) (m : Message) (line : ℕ) (fields : List Field) → place.form ≡ form.Inner m
     → value_fault place line (value.Message fields) ≡ fault_of m line fields
 fault-Inner place m line fields is =
-    let row = row_of (value.Message fields) in
-    ap (λ f. message_fault f line place (λ m. option_or (row_fault m row.1) (missing (rows_of m) line (items-the_row-Field row.0 row.1)))) is
-    ∙ ap (λ e. option_or e (missing (rows_of m) line (items-the_row-Field row.0 row.1))) (of_fields m row.0 row.1)
-    ∙ ap (fault_of m line) (items_hidden-the_row-Field-0 fields)
+    fault-Message place line fields ∙ ap (λ f. message_fault f line place (λ m. fault_of m line fields)) is
