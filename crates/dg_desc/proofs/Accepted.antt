@@ -6,8 +6,6 @@ use Rattle.std.proofs.lemmas.Bool.{not-false}
 use Rattle.std.proofs.lemmas.Slice.Eq.{bytes_eq-Decides}
 use Rattle.dg_ptext.specs.declared.tree.Field.{Field}
 use Rattle.dg_ptext.specs.declared.tree.Value.{Value, Bare, Quoted, Message', items-the_row-Field}
-use Rattle.dg_ptext.specs.Printed.{printed}
-use Rattle.dg_ptext.specs.Same.{SameFields}
 use Rattle.dg_desc.specs.declared.known.Message.{Message}
 use Rattle.dg_desc.specs.declared.known.Message.TheVariants as messages
 use Rattle.dg_desc.specs.declared.known.FieldName.{FieldName}
@@ -24,10 +22,7 @@ use Rattle.dg_desc.specs.Trees.{go_tree, coll_tree}
 use Rattle.dg_desc.specs.Canonical.{canonical_go, canonical_coll}
 use Rattle.dg_desc.proofs.Messages.{of_fields}
 use Rattle.dg_desc.proofs.Groups.{are_unknown, no_faults, last_of, last-named, some_fields, there-named}
-use Rattle.dg_desc.proofs.SameFaults.{not_refused, fault_same}
-use Rattle.dg_desc.proofs.SameTrees.{are_same, from_same}
-use Rattle.dg_desc.proofs.SamePrinted.{printed_same, go_same, coll_same}
-use Rattle.dg_desc.proofs.PrintsAgain.{go_printed, coll_printed}
+use Rattle.dg_desc.proofs.SameFaults.{not_refused}
 use Rattle.dg_desc.proofs.Vectors.{position_fits, rotation_fits, scale3_fits}
 use Rattle.dg_desc.proofs.MessagesAgain.{PropAgain, CompPropsAgain, InstPropsAgain, RefAgain, EmbedAgain, GoAgain, InstAgain, EmbedInstAgain, CollInstAgain, CollAgain, prop_again, comp_props_again, inst_props_again, ref_again, embed_again, go_again, inst_again, embed_inst_again, coll_inst_again, coll_again}
 
@@ -155,7 +150,7 @@ coll_read tree =
 
 -- ---- files
 
-accepted : {D : Type 0} (o : Option DescCode) (d desc : D) → unless_fault o d ≡ Ok desc → (o ≡ None) × (d ≡ desc)
+pub accepted : {D : Type 0} (o : Option DescCode) (d desc : D) → unless_fault o d ≡ Ok desc → (o ≡ None) × (d ≡ desc)
 accepted None d desc h = (refl, cc)
 accepted (Some code) d desc h = let e : ⊥ = cc in absurd e
 
@@ -170,29 +165,3 @@ coll_reads_again tree desc h =
     let parts = accepted (fault_of messages.Coll 1 tree) (coll_of tree) desc h in
     let again = coll_read tree in
     subst (λ (d : CollDesc). coll_reading (coll_tree d) ≡ Ok (canonical_coll d)) parts.1 (ap₂ unless_fault (again.no_fault 1) again.again)
-
--- ---- files with line numbers
-
--- what is printed reads again whatever lines it has, and is printed as the same text
-pub go_formatted : (tree : List Field) (desc : GoDesc) → go_reading tree ≡ Ok desc → (again : List Field) → SameFields (go_tree desc) again
-    → (formatted : GoDesc) × (go_reading again ≡ Ok formatted) × (printed [] (go_tree formatted) ≡ printed [] (go_tree desc))
-go_formatted tree desc h again same =
-    let reads = accepted (fault_of messages.Go 1 (go_tree desc)) (go_of (go_tree desc)) (canonical_go desc) (go_reads_again tree desc h) in (
-      go_of again,
-      ap (λ o. unless_fault o (go_of again)) (fault_same messages.Go 1 1 (go_tree desc) again same reads.0),
-      sym (printed_same [] (go_tree (go_of (go_tree desc))) (go_tree (go_of again))
-      (from_same (go_tree (go_of (go_tree desc))) (go_tree (go_of again)) (go_same (go_tree desc) again (are_same (go_tree desc) again same))))
-      ∙ ap (λ d. printed [] (go_tree d)) reads.1 ∙ ap (printed []) (go_printed desc),
-    )
-
--- what is printed reads again whatever lines it has, and is printed as the same text
-pub coll_formatted : (tree : List Field) (desc : CollDesc) → coll_reading tree ≡ Ok desc → (again : List Field) → SameFields (coll_tree desc) again
-    → (formatted : CollDesc) × (coll_reading again ≡ Ok formatted) × (printed [] (coll_tree formatted) ≡ printed [] (coll_tree desc))
-coll_formatted tree desc h again same =
-    let reads = accepted (fault_of messages.Coll 1 (coll_tree desc)) (coll_of (coll_tree desc)) (canonical_coll desc) (coll_reads_again tree desc h) in (
-      coll_of again,
-      ap (λ o. unless_fault o (coll_of again)) (fault_same messages.Coll 1 1 (coll_tree desc) again same reads.0),
-      sym (printed_same [] (coll_tree (coll_of (coll_tree desc))) (coll_tree (coll_of again))
-      (from_same (coll_tree (coll_of (coll_tree desc))) (coll_tree (coll_of again)) (coll_same (coll_tree desc) again (are_same (coll_tree desc) again same))))
-      ∙ ap (λ d. printed [] (coll_tree d)) reads.1 ∙ ap (printed []) (coll_printed desc),
-    )

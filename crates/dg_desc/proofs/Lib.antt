@@ -10,4 +10,6 @@ pub mod PrintsAgain
 pub mod SameTrees
 pub mod SameFaults
 pub mod SamePrinted
+pub mod PrintedSpelled
 pub mod Accepted
+pub mod Formatted

@@ -25,8 +25,8 @@ pub fault-Message : (place : Place) (line : ℕ) (fields : List Field)
 fault-Message place line fields =
     let row = row_of (value.Message fields) in
     λ i. message_fault place.form line place (λ m. (
-        ap (λ e. option_or e (missing (rows_of m) line (items-the_row-Field row.0 row.1))) (of_fields m row.0 row.1)
-        ∙ ap (fault_of m line) (items_hidden-the_row-Field-0 fields)) i)
+    ap (λ e. option_or e (missing (rows_of m) line (items-the_row-Field row.0 row.1))) (of_fields m row.0 row.1)
+    ∙ ap (fault_of m line) (items_hidden-the_row-Field-0 fields)) i)
 
 pub fault-Inner : (place : Place) (m : Message) (line : ℕ) (fields : List Field) → place.form ≡ form.Inner m
     → value_fault place line (value.Message fields) ≡ fault_of m line fields

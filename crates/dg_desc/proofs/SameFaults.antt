@@ -76,8 +76,8 @@ mutual
       ∙ (fault-Message place other others
       ∙ message_same place.form line other place (λ m. fault_of m line fields) (λ m. fault_of m other others)
       (λ m none_. let parts = no_faults (fields_fault m fields) (missing (rows_of m) line fields) none_ in
-        ap (λ o. option_or o (missing (rows_of m) other others)) (fields_same m fields others same parts.0)
-        ∙ missing_same (rows_of m) line other fields others (are_same fields others same) parts.1)
+      ap (λ o. option_or o (missing (rows_of m) other others)) (fields_same m fields others same parts.0)
+      ∙ missing_same (rows_of m) line other fields others (are_same fields others same) parts.1)
       (sym (fault-Message place line fields) ∙ (ap (value_fault place line) (sym e) ∙ h)))
 
 pub fault_same : (m : Message) (line other : ℕ) (xs ys : List Field) → SameFields xs ys → fault_of m line xs ≡ None → fault_of m other ys ≡ None

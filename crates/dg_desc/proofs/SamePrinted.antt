@@ -132,7 +132,7 @@ each_same n reads prints each [] (y ∷ ys) h = absurd h
 each_same n reads prints each (x ∷ xs) [] h = absurd h
 each_same n reads prints each (x ∷ xs) (y ∷ ys) h = (
   message_field n (prints (reads x.line (fields_in x.value))) (prints (reads y.line (fields_in y.value)))
-  (each x.line y.line (fields_in x.value) (fields_in y.value) (inner_same x.value y.value h.0.1)),
+      (each x.line y.line (fields_in x.value) (fields_in y.value) (inner_same x.value y.value h.0.1)),
   each_same n reads prints each xs ys h.1,
 )
 
@@ -153,72 +153,95 @@ type_of_same xs ys h =
     (ap type_word (types_same name.Type xs ys h))
 
 prop_same : PrintsSame prop_of prop_tree
-prop_same line other xs ys h =
-    (text_of_same name.Id xs ys h,
-    (text_of_same name.Value xs ys h,
-    (type_of_same xs ys h,
-    unknown_same messages.Prop xs ys h)))
+prop_same line other xs ys h = (
+  text_of_same name.Id xs ys h,
+  (
+    text_of_same name.Value xs ys h,
+    (
+      type_of_same xs ys h,
+      unknown_same messages.Prop xs ys h,
+    ),
+  ),
+)
 
 comp_props_same : PrintsSame comp_props_of comp_props_tree
-comp_props_same line other xs ys h =
-    (text_of_same name.Id xs ys h,
-    same_behind _ _ _ _ (messages_same name.Properties prop_of prop_tree prop_same xs ys h)
-    (unknown_same messages.CompProps xs ys h))
+comp_props_same line other xs ys h = (
+  text_of_same name.Id xs ys h,
+  same_behind _ _ _ _ (messages_same name.Properties prop_of prop_tree prop_same xs ys h)
+      (unknown_same messages.CompProps xs ys h),
+)
 
 inst_props_same : PrintsSame inst_props_of inst_props_tree
-inst_props_same line other xs ys h =
-    (text_of_same name.Id xs ys h,
-    same_behind _ _ _ _ (messages_same name.Properties comp_props_of comp_props_tree comp_props_same xs ys h)
-    (unknown_same messages.InstProps xs ys h))
+inst_props_same line other xs ys h = (
+  text_of_same name.Id xs ys h,
+  same_behind _ _ _ _ (messages_same name.Properties comp_props_of comp_props_tree comp_props_same xs ys h)
+      (unknown_same messages.InstProps xs ys h),
+)
 
 ref_same : PrintsSame ref_of ref_tree
-ref_same line other xs ys h =
-    (text_of_same name.Id xs ys h,
-    (text_of_same name.Component xs ys h,
+ref_same line other xs ys h = (
+  text_of_same name.Id xs ys h,
+  (
+    text_of_same name.Component xs ys h,
     same_behind _ _ _ _ (same_behind _ _ _ _ (same_behind _ _ _ _ (position_same xs ys h)
-    (rotation_same xs ys h))
-    (messages_same name.Properties prop_of prop_tree prop_same xs ys h))
-    (unknown_same messages.Ref xs ys h)))
+        (rotation_same xs ys h))
+        (messages_same name.Properties prop_of prop_tree prop_same xs ys h))
+        (unknown_same messages.Ref xs ys h),
+  ),
+)
 
 embed_same : PrintsSame embed_of embed_tree
-embed_same line other xs ys h =
-    (text_of_same name.Id xs ys h,
-    (text_of_same name.Type xs ys h,
-    (text_of_same name.Data xs ys h,
-    same_behind _ _ _ _ (same_behind _ _ _ _ (position_same xs ys h)
-    (rotation_same xs ys h))
-    (unknown_same messages.Embed xs ys h))))
+embed_same line other xs ys h = (
+  text_of_same name.Id xs ys h,
+  (
+    text_of_same name.Type xs ys h,
+    (
+      text_of_same name.Data xs ys h,
+      same_behind _ _ _ _ (same_behind _ _ _ _ (position_same xs ys h)
+          (rotation_same xs ys h))
+          (unknown_same messages.Embed xs ys h),
+    ),
+  ),
+)
 
 inst_same : PrintsSame inst_of inst_tree
-inst_same line other xs ys h =
-    (text_of_same name.Id xs ys h,
-    (text_of_same name.Prototype xs ys h,
+inst_same line other xs ys h = (
+  text_of_same name.Id xs ys h,
+  (
+    text_of_same name.Prototype xs ys h,
     same_behind _ _ _ _ (same_behind _ _ _ _ (same_behind _ _ _ _ (same_behind _ _ _ _ (same_behind _ _ _ _ (children_same xs ys h)
-    (position_same xs ys h))
-    (rotation_same xs ys h))
-    (scale3_same xs ys h))
-    (messages_same name.ComponentProperties comp_props_of comp_props_tree comp_props_same xs ys h))
-    (unknown_same messages.Inst xs ys h)))
+        (position_same xs ys h))
+        (rotation_same xs ys h))
+        (scale3_same xs ys h))
+        (messages_same name.ComponentProperties comp_props_of comp_props_tree comp_props_same xs ys h))
+        (unknown_same messages.Inst xs ys h),
+  ),
+)
 
 embed_inst_same : PrintsSame embed_inst_of embed_inst_tree
-embed_inst_same line other xs ys h =
-    (text_of_same name.Id xs ys h,
-    same_behind _ _ _ _ (children_same xs ys h)
-    (text_of_same name.Data xs ys h,
+embed_inst_same line other xs ys h = (
+  text_of_same name.Id xs ys h,
+  same_behind _ _ _ _ (children_same xs ys h) (
+    text_of_same name.Data xs ys h,
     same_behind _ _ _ _ (same_behind _ _ _ _ (same_behind _ _ _ _ (position_same xs ys h)
-    (rotation_same xs ys h))
-    (scale3_same xs ys h))
-    (unknown_same messages.EmbedInst xs ys h)))
+        (rotation_same xs ys h))
+        (scale3_same xs ys h))
+        (unknown_same messages.EmbedInst xs ys h),
+  ),
+)
 
 coll_inst_same : PrintsSame coll_inst_of coll_inst_tree
-coll_inst_same line other xs ys h =
-    (text_of_same name.Id xs ys h,
-    (text_of_same name.Collection xs ys h,
+coll_inst_same line other xs ys h = (
+  text_of_same name.Id xs ys h,
+  (
+    text_of_same name.Collection xs ys h,
     same_behind _ _ _ _ (same_behind _ _ _ _ (same_behind _ _ _ _ (same_behind _ _ _ _ (position_same xs ys h)
-    (rotation_same xs ys h))
-    (scale3_same xs ys h))
-    (messages_same name.InstanceProperties inst_props_of inst_props_tree inst_props_same xs ys h))
-    (unknown_same messages.CollInst xs ys h)))
+        (rotation_same xs ys h))
+        (scale3_same xs ys h))
+        (messages_same name.InstanceProperties inst_props_of inst_props_tree inst_props_same xs ys h))
+        (unknown_same messages.CollInst xs ys h),
+  ),
+)
 
 pub go_same : (xs ys : List Field) → AreSame xs ys → AreSame (go_tree (go_of xs)) (go_tree (go_of ys))
 go_same xs ys h =
@@ -227,10 +250,11 @@ go_same xs ys h =
     (unknown_same messages.Go xs ys h)
 
 pub coll_same : (xs ys : List Field) → AreSame xs ys → AreSame (coll_tree (coll_of xs)) (coll_tree (coll_of ys))
-coll_same xs ys h =
-    (text_of_same name.Name xs ys h,
-    same_behind _ _ _ _ (same_behind _ _ _ _ (same_behind _ _ _ _ (same_behind _ _ _ _ (switch_same (switch_in (last_value name.ScaleAlongZ xs)) (switch_in (last_value name.ScaleAlongZ ys)) (switches_same name.ScaleAlongZ xs ys h))
-    (messages_same name.Instances inst_of inst_tree inst_same xs ys h))
-    (messages_same name.EmbeddedInstances embed_inst_of embed_inst_tree embed_inst_same xs ys h))
-    (messages_same name.CollectionInstances coll_inst_of coll_inst_tree coll_inst_same xs ys h))
-    (unknown_same messages.Coll xs ys h))
+coll_same xs ys h = (
+  text_of_same name.Name xs ys h,
+  same_behind _ _ _ _ (same_behind _ _ _ _ (same_behind _ _ _ _ (same_behind _ _ _ _ (switch_same (switch_in (last_value name.ScaleAlongZ xs)) (switch_in (last_value name.ScaleAlongZ ys)) (switches_same name.ScaleAlongZ xs ys h))
+      (messages_same name.Instances inst_of inst_tree inst_same xs ys h))
+      (messages_same name.EmbeddedInstances embed_inst_of embed_inst_tree embed_inst_same xs ys h))
+      (messages_same name.CollectionInstances coll_inst_of coll_inst_tree coll_inst_same xs ys h))
+      (unknown_same messages.Coll xs ys h),
+)

@@ -6,3 +6,4 @@ pub mod Lookups
 pub mod Descs
 pub mod Trees
 pub mod Canonical
+pub mod Formatted

@@ -9,3 +9,4 @@ pub mod ReadIsSpelled
 pub mod PrintedTokens
 pub mod TokenForms
 pub mod ReadBack
+pub mod FieldsSpelled

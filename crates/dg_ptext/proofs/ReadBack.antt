@@ -146,7 +146,7 @@ unfolding tokens
 tokens-nil line = refl
 
 -- strings that are UTF-8 each are UTF-8 together
-joined_utf8 : (strings : List (ℕ × List ℕ)) → AreFormed (string_tokens strings) → IsUtf8 (joined strings)
+pub joined_utf8 : (strings : List (ℕ × List ℕ)) → AreFormed (string_tokens strings) → IsUtf8 (joined strings)
 joined_utf8 [] h = IsUtf8-nil
 joined_utf8 (s ∷ strings) h = IsUtf8-append s.1 (joined strings) (IsUtf8-from_is_utf8 s.1 h.0) (joined_utf8 strings h.1)
 
@@ -235,12 +235,11 @@ mutual
       (message_again depth line margin fields shallow blanks
       (fields_again (depth + 1) fields inner_ts inner (line_behind 10 line) (margin ++ 32 ∷ 32 ∷ []) (deeper_margin margin blanks) inside.0))
 
--- what reading the printed text of a tree gives, for each tree that some text reads as
-pub reads_again : (bytes : List ℕ) (tree : List Field) → reading bytes ≡ Ok tree
+-- what reading the printed text of a tree gives, for each tree that tokens spell
+pub spelled_again : (tree : List Field) (ts : List Placed) → AreFields 0 tree ts → AreFormed ts
     → (again : List Field) × (reading (printed [] tree) ≡ Ok again) × SameFields tree again
-reads_again bytes tree e =
-    let s = spelled-reading bytes tree e in
-    let all = fields_again 0 tree (tokens 0 1 bytes) s.fields 1 [] tt (tokens_formed 0 1 bytes) in
+spelled_again tree ts are formed =
+    let all = fields_again 0 tree ts are 1 [] tt formed in
     let whole : tokens 0 1 (printed [] tree) ≡ all.ts =
     ap (tokens 0 1) (sym (append-nil (printed [] tree))) ∙ (all.read [] ∙ no_more all.next all.ts) in
     let fields : AreFields 0 all.again (tokens 0 1 (printed [] tree)) = subst (λ (us : List Placed). AreFields 0 all.again us) (sym whole) all.are in (
@@ -251,3 +250,8 @@ reads_again bytes tree e =
   where
     no_more : (line : ℕ) (ts : List Placed) → ts ++ tokens 0 line [] ≡ ts
     no_more line ts = ap (λ (us : List Placed). ts ++ us) (tokens-nil line) ∙ append-nil ts
+
+-- and for each tree that some text reads as
+pub reads_again : (bytes : List ℕ) (tree : List Field) → reading bytes ≡ Ok tree
+    → (again : List Field) × (reading (printed [] tree) ≡ Ok again) × SameFields tree again
+reads_again bytes tree e = spelled_again tree (tokens 0 1 bytes) (spelled-reading bytes tree e).fields (tokens_formed 0 1 bytes)

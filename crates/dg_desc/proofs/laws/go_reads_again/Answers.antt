@@ -1,4 +1,5 @@
 use Rattle.dg_desc.proofs.Accepted as accepted
+use Rattle.dg_desc.proofs.Formatted as formatted
 use Rattle.dg_desc.proofs.PrintsAgain as printed
 use Rattle.dg_desc.proofs.laws.go_reads_again.Goals as goal
 
@@ -7,3 +8,6 @@ returns-clause-read c = accepted.go_reads_again
 
 pub returns-clause-printed : goal.returns-clause-printed
 returns-clause-printed c = printed.go_printed
+
+pub returns-clause-formatted : goal.returns-clause-formatted
+returns-clause-formatted c = formatted.go_formatted
