@@ -3,11 +3,11 @@ use Rattle.std.proofs.Common.{◌≡◌, ℕ, ◌^◌, Bool, true, false, cond, 
 use Rattle.std.specs.Ordering.{int_eq}
 use Rattle.std.specs.Option.{option_or}
 use Rattle.std.proofs.lemmas.Bool.Decides.{Decides-int_eq}
+use Rattle.dg_decimal.specs.declared.refusal.DecimalRefusal.TheVariants.{Range}
 use Rattle.dg_decimal.specs.Form.{Number}
 use Rattle.dg_decimal.specs.Value.{fits, billionths}
 use Rattle.dg_decimal.specs.Reading.{answer, number_in}
 use Rattle.dg_decimal.specs.Canonical.{canonical}
-use Rattle.dg_decimal.specs.declared.refusal.DecimalRefusal.TheVariants.{Range}
 use Rattle.dg_decimal.proofs.ReadBack.{reading-canonical}
 use Rattle.dg_ptext.specs.declared.tree.Field.{Field}
 use Rattle.dg_ptext.specs.declared.tree.Value.{Value, items_hidden-the_row-Field-0}

@@ -30,8 +30,8 @@ use Rattle.dg_desc.specs.Known.{label_of}
 use Rattle.dg_desc.specs.Words.{type_word}
 use Rattle.dg_desc.specs.Faults.{is_named}
 use Rattle.dg_desc.specs.Lookups.{last_value, fields_named, unknown, is_unknown, fields_in, text_in, text_or_none, text_of, type_in, switch_in, one, position_of, rotation_of, scale3_of}
-use Rattle.dg_desc.specs.Descs.{child_of, prop_of, comp_props_of, inst_props_of, ref_of, embed_of, go_of, inst_of, embed_inst_of, coll_inst_of, coll_of}
-use Rattle.dg_desc.specs.Trees.{bare, quoted, message, differing, vector_fields, vector_tree, quaternion_fields, rotation_tree, switch_tree, all_trees, child_tree, prop_tree, comp_props_tree, inst_props_tree, ref_tree, embed_tree, go_tree, inst_tree, embed_inst_tree, coll_inst_tree, coll_tree}
+use Rattle.dg_desc.specs.Descs.{child_of, prop_of, comp_props_of, inst_props_of, ref_of, embed_of, go_of, inst_of, embed_inst_of, coll_inst_of, coll_of, all_of, children_of}
+use Rattle.dg_desc.specs.Trees.{bare, quoted, message, differing, vector_fields, vector_tree, quaternion_fields, position_tree, rotation_tree, scale3_tree, switch_tree, all_trees, child_tree, prop_tree, comp_props_tree, inst_props_tree, ref_tree, embed_tree, go_tree, inst_tree, embed_inst_tree, coll_inst_tree, coll_tree}
 use Rattle.dg_desc.proofs.Groups.{last_of, last-named}
 use Rattle.dg_desc.proofs.Numbers.{inside}
 use Rattle.dg_desc.proofs.Vectors.{GivenVectorFits, GivenRotationFits, position_fits, rotation_fits, scale3_fits}
@@ -133,16 +133,6 @@ last_text : (depth : ℕ) (fields : List Field) → AreSpelled depth fields → 
 last_text depth [] h = no_text
 last_text depth (f ∷ fs) h = or_text (last_of fs) f.value (last_text depth fs h.1) (value_text depth f.value h.0.value)
 
-module _ (depth : ℕ) (fields : List Field) (h : AreSpelled depth fields) where
-  text_field : (n : FieldName) → IsSpelledField depth (quoted n (text_of n fields))
-  text_field n =
-      field_spelled depth n (value.Quoted (text_of n fields)) (text_spelled depth (text_of n fields)
-      (ap (λ o. is_utf8 (text_or_none o)) (last-named n fields)
-      ∙ last_text depth (fields_named n fields) (kept_spelled depth (is_named n) fields h)))
-
-  unknown_fields : (m : Message) → AreSpelled depth (unknown m fields)
-  unknown_fields m = kept_spelled depth (is_unknown m) fields h
-
 number_fields : (depth : ℕ) (n : FieldName) (other z : ℤ) → FitsSigned w64 z → AreSpelled depth (differing n other z)
 number_fields depth n other z h = by_test (int_eq z other)
   where
@@ -218,135 +208,125 @@ each_message depth room n reads prints shallow roomy each (f ∷ fs) h = (
   each_message depth room n reads prints shallow roomy each fs h.1,
 )
 
+module _ (depth : ℕ) (fields : List Field) (h : AreSpelled depth fields) where
+  text_field : (n : FieldName) → IsSpelledField depth (quoted n (text_of n fields))
+  text_field n =
+      field_spelled depth n (value.Quoted (text_of n fields)) (text_spelled depth (text_of n fields)
+      (ap (λ o. is_utf8 (text_or_none o)) (last-named n fields)
+      ∙ last_text depth (fields_named n fields) (kept_spelled depth (is_named n) fields h)))
+
+  unknown_fields : (m : Message) → AreSpelled depth (unknown m fields)
+  unknown_fields m = kept_spelled depth (is_unknown m) fields h
+
+  named_fields : (n : FieldName) → AreSpelled depth (fields_named n fields)
+  named_fields n = kept_spelled depth (is_named n) fields h
+
+  children_field : AreSpelled depth (map child_tree (children_of fields))
+  children_field = each_child depth (fields_named name.Children fields) (named_fields name.Children)
+
+  position_field : depth < 64 → AreSpelled depth (position_tree (position_of fields))
+  position_field shallow = given_vector depth name.Position (pos 0) (position_of fields) shallow (position_fits fields)
+
+  rotation_field : depth < 64 → AreSpelled depth (rotation_tree (rotation_of fields))
+  rotation_field shallow = given_rotation depth (rotation_of fields) shallow (rotation_fits fields)
+
+  scale3_field : depth < 64 → AreSpelled depth (scale3_tree (scale3_of fields))
+  scale3_field shallow = given_vector depth name.Scale3 one (scale3_of fields) shallow (scale3_fits fields)
+
+  messages_field : {D : Type 0} (room : ℕ) (n : FieldName) (reads : ℕ → List Field → D) (prints : D → List Field)
+      → depth + 1 + room < 65 → PrintsSpelled room reads prints → AreSpelled depth (all_trees prints n (all_of reads n fields))
+  messages_field room n reads prints roomy each =
+      each_message depth room n reads prints (omega (arith, roomy)) roomy each (fields_named n fields) (named_fields n)
+
 prop_spelled : PrintsSpelled 0 prop_of prop_tree
-prop_spelled depth roomy line fields h = (
-  text_field depth fields h name.Id,
-  (
-    text_field depth fields h name.Value,
-    (
-      type_field depth (type_in (last_value name.Type fields)),
-      unknown_fields depth fields h messages.Prop,
-    ),
-  ),
-)
+prop_spelled depth roomy line fields h =
+    let id = text_field depth fields h name.Id in
+    let value = text_field depth fields h name.Value in
+    let type = type_field depth (type_in (last_value name.Type fields)) in
+    let unknown = unknown_fields depth fields h messages.Prop in
+    (id, (value, (type, unknown)))
 
 comp_props_spelled : PrintsSpelled 1 comp_props_of comp_props_tree
-comp_props_spelled depth roomy line fields h = (
-  text_field depth fields h name.Id,
-  spelled_behind depth _ _
-      (each_message depth 0 name.Properties prop_of prop_tree (omega arith) (omega arith) prop_spelled (fields_named name.Properties fields) (kept_spelled depth (is_named name.Properties) fields h))
-      (unknown_fields depth fields h messages.CompProps),
-)
+comp_props_spelled depth roomy line fields h =
+    let id = text_field depth fields h name.Id in
+    let properties = messages_field depth fields h 0 name.Properties prop_of prop_tree (omega arith) prop_spelled in
+    let unknown = unknown_fields depth fields h messages.CompProps in
+    (id, spelled_behind depth _ _ properties unknown)
 
 inst_props_spelled : PrintsSpelled 2 inst_props_of inst_props_tree
-inst_props_spelled depth roomy line fields h = (
-  text_field depth fields h name.Id,
-  spelled_behind depth _ _
-      (each_message depth 1 name.Properties comp_props_of comp_props_tree (omega arith) (omega arith) comp_props_spelled (fields_named name.Properties fields) (kept_spelled depth (is_named name.Properties) fields h))
-      (unknown_fields depth fields h messages.InstProps),
-)
+inst_props_spelled depth roomy line fields h =
+    let id = text_field depth fields h name.Id in
+    let properties = messages_field depth fields h 1 name.Properties comp_props_of comp_props_tree (omega arith) comp_props_spelled in
+    let unknown = unknown_fields depth fields h messages.InstProps in
+    (id, spelled_behind depth _ _ properties unknown)
 
 ref_spelled : PrintsSpelled 1 ref_of ref_tree
-ref_spelled depth roomy line fields h = (
-  text_field depth fields h name.Id,
-  (
-    text_field depth fields h name.Component,
-    spelled_behind depth _ _
-        (spelled_behind depth _ _
-        (spelled_behind depth _ _
-        (given_vector depth name.Position (pos 0) (position_of fields) (omega arith) (position_fits fields))
-        (given_rotation depth (rotation_of fields) (omega arith) (rotation_fits fields)))
-        (each_message depth 0 name.Properties prop_of prop_tree (omega arith) (omega arith) prop_spelled (fields_named name.Properties fields) (kept_spelled depth (is_named name.Properties) fields h)))
-        (unknown_fields depth fields h messages.Ref),
-  ),
-)
+ref_spelled depth roomy line fields h =
+    let id = text_field depth fields h name.Id in
+    let component = text_field depth fields h name.Component in
+    let position = position_field depth fields h (omega arith) in
+    let rotation = rotation_field depth fields h (omega arith) in
+    let properties = messages_field depth fields h 0 name.Properties prop_of prop_tree (omega arith) prop_spelled in
+    let unknown = unknown_fields depth fields h messages.Ref in
+    (id, (component, spelled_behind depth _ _ (spelled_behind depth _ _ (spelled_behind depth _ _ position rotation) properties) unknown))
 
 embed_spelled : PrintsSpelled 1 embed_of embed_tree
-embed_spelled depth roomy line fields h = (
-  text_field depth fields h name.Id,
-  (
-    text_field depth fields h name.Type,
-    (
-      text_field depth fields h name.Data,
-      spelled_behind depth _ _
-          (spelled_behind depth _ _
-          (given_vector depth name.Position (pos 0) (position_of fields) (omega arith) (position_fits fields))
-          (given_rotation depth (rotation_of fields) (omega arith) (rotation_fits fields)))
-          (unknown_fields depth fields h messages.Embed),
-    ),
-  ),
-)
-
-inst_spelled : PrintsSpelled 2 inst_of inst_tree
-inst_spelled depth roomy line fields h = (
-  text_field depth fields h name.Id,
-  (
-    text_field depth fields h name.Prototype,
-    spelled_behind depth _ _
-        (spelled_behind depth _ _
-        (spelled_behind depth _ _
-        (spelled_behind depth _ _
-        (spelled_behind depth _ _
-        (each_child depth (fields_named name.Children fields) (kept_spelled depth (is_named name.Children) fields h))
-        (given_vector depth name.Position (pos 0) (position_of fields) (omega arith) (position_fits fields)))
-        (given_rotation depth (rotation_of fields) (omega arith) (rotation_fits fields)))
-        (given_vector depth name.Scale3 one (scale3_of fields) (omega arith) (scale3_fits fields)))
-        (each_message depth 1 name.ComponentProperties comp_props_of comp_props_tree (omega arith) (omega arith) comp_props_spelled (fields_named name.ComponentProperties fields) (kept_spelled depth (is_named name.ComponentProperties) fields h)))
-        (unknown_fields depth fields h messages.Inst),
-  ),
-)
-
-embed_inst_spelled : PrintsSpelled 1 embed_inst_of embed_inst_tree
-embed_inst_spelled depth roomy line fields h = (
-  text_field depth fields h name.Id,
-  spelled_behind depth _ _
-      (each_child depth (fields_named name.Children fields) (kept_spelled depth (is_named name.Children) fields h)) (
-        text_field depth fields h name.Data,
-        spelled_behind depth _ _
-            (spelled_behind depth _ _
-            (spelled_behind depth _ _
-            (given_vector depth name.Position (pos 0) (position_of fields) (omega arith) (position_fits fields))
-            (given_rotation depth (rotation_of fields) (omega arith) (rotation_fits fields)))
-            (given_vector depth name.Scale3 one (scale3_of fields) (omega arith) (scale3_fits fields)))
-            (unknown_fields depth fields h messages.EmbedInst),
-      ),
-)
-
-coll_inst_spelled : PrintsSpelled 3 coll_inst_of coll_inst_tree
-coll_inst_spelled depth roomy line fields h = (
-  text_field depth fields h name.Id,
-  (
-    text_field depth fields h name.Collection,
-    spelled_behind depth _ _
-        (spelled_behind depth _ _
-        (spelled_behind depth _ _
-        (spelled_behind depth _ _
-        (given_vector depth name.Position (pos 0) (position_of fields) (omega arith) (position_fits fields))
-        (given_rotation depth (rotation_of fields) (omega arith) (rotation_fits fields)))
-        (given_vector depth name.Scale3 one (scale3_of fields) (omega arith) (scale3_fits fields)))
-        (each_message depth 2 name.InstanceProperties inst_props_of inst_props_tree (omega arith) (omega arith) inst_props_spelled (fields_named name.InstanceProperties fields) (kept_spelled depth (is_named name.InstanceProperties) fields h)))
-        (unknown_fields depth fields h messages.CollInst),
-  ),
-)
+embed_spelled depth roomy line fields h =
+    let id = text_field depth fields h name.Id in
+    let kind = text_field depth fields h name.Type in
+    let body = text_field depth fields h name.Data in
+    let position = position_field depth fields h (omega arith) in
+    let rotation = rotation_field depth fields h (omega arith) in
+    let unknown = unknown_fields depth fields h messages.Embed in
+    (id, (kind, (body, spelled_behind depth _ _ (spelled_behind depth _ _ position rotation) unknown)))
 
 pub go_spelled : (tree : List Field) → AreSpelled 0 tree → AreSpelled 0 (go_tree (go_of tree))
 go_spelled tree h =
-    spelled_behind 0 _ _
-    (spelled_behind 0 _ _
-    (each_message 0 1 name.Components ref_of ref_tree (omega arith) (omega arith) ref_spelled (fields_named name.Components tree) (kept_spelled 0 (is_named name.Components) tree h))
-    (each_message 0 1 name.EmbeddedComponents embed_of embed_tree (omega arith) (omega arith) embed_spelled (fields_named name.EmbeddedComponents tree) (kept_spelled 0 (is_named name.EmbeddedComponents) tree h)))
-    (unknown_fields 0 tree h messages.Go)
+    let components = messages_field 0 tree h 1 name.Components ref_of ref_tree (omega arith) ref_spelled in
+    let embedded_components = messages_field 0 tree h 1 name.EmbeddedComponents embed_of embed_tree (omega arith) embed_spelled in
+    let unknown = unknown_fields 0 tree h messages.Go in
+    spelled_behind 0 _ _ (spelled_behind 0 _ _ components embedded_components) unknown
+
+inst_spelled : PrintsSpelled 2 inst_of inst_tree
+inst_spelled depth roomy line fields h =
+    let id = text_field depth fields h name.Id in
+    let prototype = text_field depth fields h name.Prototype in
+    let children = children_field depth fields h in
+    let position = position_field depth fields h (omega arith) in
+    let rotation = rotation_field depth fields h (omega arith) in
+    let scale3 = scale3_field depth fields h (omega arith) in
+    let component_properties = messages_field depth fields h 1 name.ComponentProperties comp_props_of comp_props_tree (omega arith) comp_props_spelled in
+    let unknown = unknown_fields depth fields h messages.Inst in
+    (id, (prototype, spelled_behind depth _ _ (spelled_behind depth _ _ (spelled_behind depth _ _ (spelled_behind depth _ _ (spelled_behind depth _ _ children position) rotation) scale3) component_properties) unknown))
+
+embed_inst_spelled : PrintsSpelled 1 embed_inst_of embed_inst_tree
+embed_inst_spelled depth roomy line fields h =
+    let id = text_field depth fields h name.Id in
+    let children = children_field depth fields h in
+    let body = text_field depth fields h name.Data in
+    let position = position_field depth fields h (omega arith) in
+    let rotation = rotation_field depth fields h (omega arith) in
+    let scale3 = scale3_field depth fields h (omega arith) in
+    let unknown = unknown_fields depth fields h messages.EmbedInst in
+    (id, spelled_behind depth _ _ children (body, spelled_behind depth _ _ (spelled_behind depth _ _ (spelled_behind depth _ _ position rotation) scale3) unknown))
+
+coll_inst_spelled : PrintsSpelled 3 coll_inst_of coll_inst_tree
+coll_inst_spelled depth roomy line fields h =
+    let id = text_field depth fields h name.Id in
+    let collection = text_field depth fields h name.Collection in
+    let position = position_field depth fields h (omega arith) in
+    let rotation = rotation_field depth fields h (omega arith) in
+    let scale3 = scale3_field depth fields h (omega arith) in
+    let instance_properties = messages_field depth fields h 2 name.InstanceProperties inst_props_of inst_props_tree (omega arith) inst_props_spelled in
+    let unknown = unknown_fields depth fields h messages.CollInst in
+    (id, (collection, spelled_behind depth _ _ (spelled_behind depth _ _ (spelled_behind depth _ _ (spelled_behind depth _ _ position rotation) scale3) instance_properties) unknown))
 
 pub coll_spelled : (tree : List Field) → AreSpelled 0 tree → AreSpelled 0 (coll_tree (coll_of tree))
-coll_spelled tree h = (
-  text_field 0 tree h name.Name,
-  spelled_behind 0 _ _
-      (spelled_behind 0 _ _
-      (spelled_behind 0 _ _
-      (spelled_behind 0 _ _
-      (switch_field 0 (switch_in (last_value name.ScaleAlongZ tree)))
-      (each_message 0 2 name.Instances inst_of inst_tree (omega arith) (omega arith) inst_spelled (fields_named name.Instances tree) (kept_spelled 0 (is_named name.Instances) tree h)))
-      (each_message 0 1 name.EmbeddedInstances embed_inst_of embed_inst_tree (omega arith) (omega arith) embed_inst_spelled (fields_named name.EmbeddedInstances tree) (kept_spelled 0 (is_named name.EmbeddedInstances) tree h)))
-      (each_message 0 3 name.CollectionInstances coll_inst_of coll_inst_tree (omega arith) (omega arith) coll_inst_spelled (fields_named name.CollectionInstances tree) (kept_spelled 0 (is_named name.CollectionInstances) tree h)))
-      (unknown_fields 0 tree h messages.Coll),
-)
+coll_spelled tree h =
+    let title = text_field 0 tree h name.Name in
+    let switch = switch_field 0 (switch_in (last_value name.ScaleAlongZ tree)) in
+    let instances = messages_field 0 tree h 2 name.Instances inst_of inst_tree (omega arith) inst_spelled in
+    let embedded_instances = messages_field 0 tree h 1 name.EmbeddedInstances embed_inst_of embed_inst_tree (omega arith) embed_inst_spelled in
+    let collection_instances = messages_field 0 tree h 3 name.CollectionInstances coll_inst_of coll_inst_tree (omega arith) coll_inst_spelled in
+    let unknown = unknown_fields 0 tree h messages.Coll in
+    (title, spelled_behind 0 _ _ (spelled_behind 0 _ _ (spelled_behind 0 _ _ (spelled_behind 0 _ _ switch instances) embedded_instances) collection_instances) unknown)

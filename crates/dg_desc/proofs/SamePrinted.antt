@@ -103,8 +103,11 @@ scale3_same xs ys h =
     subst (λ (p : Option V3). AreSame (scale3_tree (scale3_of xs)) (scale3_tree p)) (scales_same xs ys h)
     (vector_same name.Scale3 one (scale3_of xs))
 
-switch_same : (on off : Bool) → on ≡ off → AreSame (switch_tree name.ScaleAlongZ on) (switch_tree name.ScaleAlongZ off)
-switch_same on off e = subst (λ (b : Bool). AreSame (switch_tree name.ScaleAlongZ on) (switch_tree name.ScaleAlongZ b)) e (by_test on)
+switch_same : (xs ys : List Field) → AreSame xs ys
+    → AreSame (switch_tree name.ScaleAlongZ (switch_in (last_value name.ScaleAlongZ xs))) (switch_tree name.ScaleAlongZ (switch_in (last_value name.ScaleAlongZ ys)))
+switch_same xs ys h =
+    let on = switch_in (last_value name.ScaleAlongZ xs) in
+    subst (λ (b : Bool). AreSame (switch_tree name.ScaleAlongZ on) (switch_tree name.ScaleAlongZ b)) (switches_same name.ScaleAlongZ xs ys h) (by_test on)
   where
     by_test : (b : Bool) → AreSame (switch_tree name.ScaleAlongZ b) (switch_tree name.ScaleAlongZ b)
     by_test true = (word_field name.ScaleAlongZ (49 ∷ []) (49 ∷ []) refl, tt)
@@ -153,108 +156,94 @@ type_of_same xs ys h =
     (ap type_word (types_same name.Type xs ys h))
 
 prop_same : PrintsSame prop_of prop_tree
-prop_same line other xs ys h = (
-  text_of_same name.Id xs ys h,
-  (
-    text_of_same name.Value xs ys h,
-    (
-      type_of_same xs ys h,
-      unknown_same messages.Prop xs ys h,
-    ),
-  ),
-)
+prop_same line other xs ys h =
+    let id = text_of_same name.Id xs ys h in
+    let value = text_of_same name.Value xs ys h in
+    let type = type_of_same xs ys h in
+    let unknown = unknown_same messages.Prop xs ys h in
+    (id, (value, (type, unknown)))
 
 comp_props_same : PrintsSame comp_props_of comp_props_tree
-comp_props_same line other xs ys h = (
-  text_of_same name.Id xs ys h,
-  same_behind _ _ _ _ (messages_same name.Properties prop_of prop_tree prop_same xs ys h)
-      (unknown_same messages.CompProps xs ys h),
-)
+comp_props_same line other xs ys h =
+    let id = text_of_same name.Id xs ys h in
+    let properties = messages_same name.Properties prop_of prop_tree prop_same xs ys h in
+    let unknown = unknown_same messages.CompProps xs ys h in
+    (id, same_behind _ _ _ _ properties unknown)
 
 inst_props_same : PrintsSame inst_props_of inst_props_tree
-inst_props_same line other xs ys h = (
-  text_of_same name.Id xs ys h,
-  same_behind _ _ _ _ (messages_same name.Properties comp_props_of comp_props_tree comp_props_same xs ys h)
-      (unknown_same messages.InstProps xs ys h),
-)
+inst_props_same line other xs ys h =
+    let id = text_of_same name.Id xs ys h in
+    let properties = messages_same name.Properties comp_props_of comp_props_tree comp_props_same xs ys h in
+    let unknown = unknown_same messages.InstProps xs ys h in
+    (id, same_behind _ _ _ _ properties unknown)
 
 ref_same : PrintsSame ref_of ref_tree
-ref_same line other xs ys h = (
-  text_of_same name.Id xs ys h,
-  (
-    text_of_same name.Component xs ys h,
-    same_behind _ _ _ _ (same_behind _ _ _ _ (same_behind _ _ _ _ (position_same xs ys h)
-        (rotation_same xs ys h))
-        (messages_same name.Properties prop_of prop_tree prop_same xs ys h))
-        (unknown_same messages.Ref xs ys h),
-  ),
-)
+ref_same line other xs ys h =
+    let id = text_of_same name.Id xs ys h in
+    let component = text_of_same name.Component xs ys h in
+    let position = position_same xs ys h in
+    let rotation = rotation_same xs ys h in
+    let properties = messages_same name.Properties prop_of prop_tree prop_same xs ys h in
+    let unknown = unknown_same messages.Ref xs ys h in
+    (id, (component, same_behind _ _ _ _ (same_behind _ _ _ _ (same_behind _ _ _ _ position rotation) properties) unknown))
 
 embed_same : PrintsSame embed_of embed_tree
-embed_same line other xs ys h = (
-  text_of_same name.Id xs ys h,
-  (
-    text_of_same name.Type xs ys h,
-    (
-      text_of_same name.Data xs ys h,
-      same_behind _ _ _ _ (same_behind _ _ _ _ (position_same xs ys h)
-          (rotation_same xs ys h))
-          (unknown_same messages.Embed xs ys h),
-    ),
-  ),
-)
-
-inst_same : PrintsSame inst_of inst_tree
-inst_same line other xs ys h = (
-  text_of_same name.Id xs ys h,
-  (
-    text_of_same name.Prototype xs ys h,
-    same_behind _ _ _ _ (same_behind _ _ _ _ (same_behind _ _ _ _ (same_behind _ _ _ _ (same_behind _ _ _ _ (children_same xs ys h)
-        (position_same xs ys h))
-        (rotation_same xs ys h))
-        (scale3_same xs ys h))
-        (messages_same name.ComponentProperties comp_props_of comp_props_tree comp_props_same xs ys h))
-        (unknown_same messages.Inst xs ys h),
-  ),
-)
-
-embed_inst_same : PrintsSame embed_inst_of embed_inst_tree
-embed_inst_same line other xs ys h = (
-  text_of_same name.Id xs ys h,
-  same_behind _ _ _ _ (children_same xs ys h) (
-    text_of_same name.Data xs ys h,
-    same_behind _ _ _ _ (same_behind _ _ _ _ (same_behind _ _ _ _ (position_same xs ys h)
-        (rotation_same xs ys h))
-        (scale3_same xs ys h))
-        (unknown_same messages.EmbedInst xs ys h),
-  ),
-)
-
-coll_inst_same : PrintsSame coll_inst_of coll_inst_tree
-coll_inst_same line other xs ys h = (
-  text_of_same name.Id xs ys h,
-  (
-    text_of_same name.Collection xs ys h,
-    same_behind _ _ _ _ (same_behind _ _ _ _ (same_behind _ _ _ _ (same_behind _ _ _ _ (position_same xs ys h)
-        (rotation_same xs ys h))
-        (scale3_same xs ys h))
-        (messages_same name.InstanceProperties inst_props_of inst_props_tree inst_props_same xs ys h))
-        (unknown_same messages.CollInst xs ys h),
-  ),
-)
+embed_same line other xs ys h =
+    let id = text_of_same name.Id xs ys h in
+    let kind = text_of_same name.Type xs ys h in
+    let body = text_of_same name.Data xs ys h in
+    let position = position_same xs ys h in
+    let rotation = rotation_same xs ys h in
+    let unknown = unknown_same messages.Embed xs ys h in
+    (id, (kind, (body, same_behind _ _ _ _ (same_behind _ _ _ _ position rotation) unknown)))
 
 pub go_same : (xs ys : List Field) → AreSame xs ys → AreSame (go_tree (go_of xs)) (go_tree (go_of ys))
 go_same xs ys h =
-    same_behind _ _ _ _ (same_behind _ _ _ _ (messages_same name.Components ref_of ref_tree ref_same xs ys h)
-    (messages_same name.EmbeddedComponents embed_of embed_tree embed_same xs ys h))
-    (unknown_same messages.Go xs ys h)
+    let components = messages_same name.Components ref_of ref_tree ref_same xs ys h in
+    let embedded_components = messages_same name.EmbeddedComponents embed_of embed_tree embed_same xs ys h in
+    let unknown = unknown_same messages.Go xs ys h in
+    same_behind _ _ _ _ (same_behind _ _ _ _ components embedded_components) unknown
+
+inst_same : PrintsSame inst_of inst_tree
+inst_same line other xs ys h =
+    let id = text_of_same name.Id xs ys h in
+    let prototype = text_of_same name.Prototype xs ys h in
+    let children = children_same xs ys h in
+    let position = position_same xs ys h in
+    let rotation = rotation_same xs ys h in
+    let scale3 = scale3_same xs ys h in
+    let component_properties = messages_same name.ComponentProperties comp_props_of comp_props_tree comp_props_same xs ys h in
+    let unknown = unknown_same messages.Inst xs ys h in
+    (id, (prototype, same_behind _ _ _ _ (same_behind _ _ _ _ (same_behind _ _ _ _ (same_behind _ _ _ _ (same_behind _ _ _ _ children position) rotation) scale3) component_properties) unknown))
+
+embed_inst_same : PrintsSame embed_inst_of embed_inst_tree
+embed_inst_same line other xs ys h =
+    let id = text_of_same name.Id xs ys h in
+    let children = children_same xs ys h in
+    let body = text_of_same name.Data xs ys h in
+    let position = position_same xs ys h in
+    let rotation = rotation_same xs ys h in
+    let scale3 = scale3_same xs ys h in
+    let unknown = unknown_same messages.EmbedInst xs ys h in
+    (id, same_behind _ _ _ _ children (body, same_behind _ _ _ _ (same_behind _ _ _ _ (same_behind _ _ _ _ position rotation) scale3) unknown))
+
+coll_inst_same : PrintsSame coll_inst_of coll_inst_tree
+coll_inst_same line other xs ys h =
+    let id = text_of_same name.Id xs ys h in
+    let collection = text_of_same name.Collection xs ys h in
+    let position = position_same xs ys h in
+    let rotation = rotation_same xs ys h in
+    let scale3 = scale3_same xs ys h in
+    let instance_properties = messages_same name.InstanceProperties inst_props_of inst_props_tree inst_props_same xs ys h in
+    let unknown = unknown_same messages.CollInst xs ys h in
+    (id, (collection, same_behind _ _ _ _ (same_behind _ _ _ _ (same_behind _ _ _ _ (same_behind _ _ _ _ position rotation) scale3) instance_properties) unknown))
 
 pub coll_same : (xs ys : List Field) → AreSame xs ys → AreSame (coll_tree (coll_of xs)) (coll_tree (coll_of ys))
-coll_same xs ys h = (
-  text_of_same name.Name xs ys h,
-  same_behind _ _ _ _ (same_behind _ _ _ _ (same_behind _ _ _ _ (same_behind _ _ _ _ (switch_same (switch_in (last_value name.ScaleAlongZ xs)) (switch_in (last_value name.ScaleAlongZ ys)) (switches_same name.ScaleAlongZ xs ys h))
-      (messages_same name.Instances inst_of inst_tree inst_same xs ys h))
-      (messages_same name.EmbeddedInstances embed_inst_of embed_inst_tree embed_inst_same xs ys h))
-      (messages_same name.CollectionInstances coll_inst_of coll_inst_tree coll_inst_same xs ys h))
-      (unknown_same messages.Coll xs ys h),
-)
+coll_same xs ys h =
+    let title = text_of_same name.Name xs ys h in
+    let switch = switch_same xs ys h in
+    let instances = messages_same name.Instances inst_of inst_tree inst_same xs ys h in
+    let embedded_instances = messages_same name.EmbeddedInstances embed_inst_of embed_inst_tree embed_inst_same xs ys h in
+    let collection_instances = messages_same name.CollectionInstances coll_inst_of coll_inst_tree coll_inst_same xs ys h in
+    let unknown = unknown_same messages.Coll xs ys h in
+    (title, same_behind _ _ _ _ (same_behind _ _ _ _ (same_behind _ _ _ _ (same_behind _ _ _ _ switch instances) embedded_instances) collection_instances) unknown)

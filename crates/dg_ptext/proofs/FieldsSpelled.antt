@@ -2,6 +2,7 @@
 use Rattle.std.proofs.Common.{◌≡◌, ℕ, ◌+◌, ◌<◌, ◌⊎◌, inl, inr, true, List, [], ◌∷◌, ◌++◌, refl, sym, ap, subst, append-nil}
 use Rattle.std.specs.List.{AllByRecursion}
 use Rattle.std.specs.Str.{is_utf8}
+use Rattle.std.specs.Prelude.{Ok}
 use Rattle.std.proofs.lemmas.Str.{is_utf8-from_IsUtf8}
 use Rattle.dg_text.specs.Names.{is_name}
 use Rattle.dg_ptext.specs.declared.tree.Field.{Field}
@@ -15,7 +16,6 @@ use Rattle.dg_ptext.specs.Grammar.IsValue.{bare, quoted, message}
 use Rattle.dg_ptext.specs.Printed.{printed}
 use Rattle.dg_ptext.specs.Reading.{reading}
 use Rattle.dg_ptext.specs.Same.{SameFields}
-use Rattle.std.specs.Prelude.{Ok}
 use Rattle.dg_ptext.proofs.WordBytes.{IsWord}
 use Rattle.dg_ptext.proofs.TokenForms.{AreFormed, formed_parts, tokens_formed}
 use Rattle.dg_ptext.proofs.ReadIsSpelled.{spelled-reading}
