@@ -297,7 +297,8 @@ inst_spelled depth roomy line fields h =
     let scale3 = scale3_field depth fields h (omega arith) in
     let component_properties = messages_field depth fields h 1 name.ComponentProperties comp_props_of comp_props_tree (omega arith) comp_props_spelled in
     let unknown = unknown_fields depth fields h messages.Inst in
-    (id, (prototype, spelled_behind depth _ _ (spelled_behind depth _ _ (spelled_behind depth _ _ (spelled_behind depth _ _ (spelled_behind depth _ _ children position) rotation) scale3) component_properties) unknown))
+    let placed = spelled_behind depth _ _ (spelled_behind depth _ _ children position) rotation in
+    (id, (prototype, spelled_behind depth _ _ (spelled_behind depth _ _ (spelled_behind depth _ _ placed scale3) component_properties) unknown))
 
 embed_inst_spelled : PrintsSpelled 1 embed_inst_of embed_inst_tree
 embed_inst_spelled depth roomy line fields h =
@@ -308,7 +309,8 @@ embed_inst_spelled depth roomy line fields h =
     let rotation = rotation_field depth fields h (omega arith) in
     let scale3 = scale3_field depth fields h (omega arith) in
     let unknown = unknown_fields depth fields h messages.EmbedInst in
-    (id, spelled_behind depth _ _ children (body, spelled_behind depth _ _ (spelled_behind depth _ _ (spelled_behind depth _ _ position rotation) scale3) unknown))
+    let placed = spelled_behind depth _ _ (spelled_behind depth _ _ position rotation) scale3 in
+    (id, spelled_behind depth _ _ children (body, spelled_behind depth _ _ placed unknown))
 
 coll_inst_spelled : PrintsSpelled 3 coll_inst_of coll_inst_tree
 coll_inst_spelled depth roomy line fields h =
@@ -319,7 +321,8 @@ coll_inst_spelled depth roomy line fields h =
     let scale3 = scale3_field depth fields h (omega arith) in
     let instance_properties = messages_field depth fields h 2 name.InstanceProperties inst_props_of inst_props_tree (omega arith) inst_props_spelled in
     let unknown = unknown_fields depth fields h messages.CollInst in
-    (id, (collection, spelled_behind depth _ _ (spelled_behind depth _ _ (spelled_behind depth _ _ (spelled_behind depth _ _ position rotation) scale3) instance_properties) unknown))
+    let placed = spelled_behind depth _ _ (spelled_behind depth _ _ position rotation) scale3 in
+    (id, (collection, spelled_behind depth _ _ (spelled_behind depth _ _ placed instance_properties) unknown))
 
 pub coll_spelled : (tree : List Field) → AreSpelled 0 tree → AreSpelled 0 (coll_tree (coll_of tree))
 coll_spelled tree h =
@@ -329,4 +332,5 @@ coll_spelled tree h =
     let embedded_instances = messages_field 0 tree h 1 name.EmbeddedInstances embed_inst_of embed_inst_tree (omega arith) embed_inst_spelled in
     let collection_instances = messages_field 0 tree h 3 name.CollectionInstances coll_inst_of coll_inst_tree (omega arith) coll_inst_spelled in
     let unknown = unknown_fields 0 tree h messages.Coll in
-    (title, spelled_behind 0 _ _ (spelled_behind 0 _ _ (spelled_behind 0 _ _ (spelled_behind 0 _ _ switch instances) embedded_instances) collection_instances) unknown)
+    let listed = spelled_behind 0 _ _ (spelled_behind 0 _ _ switch instances) embedded_instances in
+    (title, spelled_behind 0 _ _ (spelled_behind 0 _ _ listed collection_instances) unknown)

@@ -214,7 +214,8 @@ inst_same line other xs ys h =
     let scale3 = scale3_same xs ys h in
     let component_properties = messages_same name.ComponentProperties comp_props_of comp_props_tree comp_props_same xs ys h in
     let unknown = unknown_same messages.Inst xs ys h in
-    (id, (prototype, same_behind _ _ _ _ (same_behind _ _ _ _ (same_behind _ _ _ _ (same_behind _ _ _ _ (same_behind _ _ _ _ children position) rotation) scale3) component_properties) unknown))
+    let placed = same_behind _ _ _ _ (same_behind _ _ _ _ children position) rotation in
+    (id, (prototype, same_behind _ _ _ _ (same_behind _ _ _ _ (same_behind _ _ _ _ placed scale3) component_properties) unknown))
 
 embed_inst_same : PrintsSame embed_inst_of embed_inst_tree
 embed_inst_same line other xs ys h =
@@ -225,7 +226,8 @@ embed_inst_same line other xs ys h =
     let rotation = rotation_same xs ys h in
     let scale3 = scale3_same xs ys h in
     let unknown = unknown_same messages.EmbedInst xs ys h in
-    (id, same_behind _ _ _ _ children (body, same_behind _ _ _ _ (same_behind _ _ _ _ (same_behind _ _ _ _ position rotation) scale3) unknown))
+    let placed = same_behind _ _ _ _ (same_behind _ _ _ _ position rotation) scale3 in
+    (id, same_behind _ _ _ _ children (body, same_behind _ _ _ _ placed unknown))
 
 coll_inst_same : PrintsSame coll_inst_of coll_inst_tree
 coll_inst_same line other xs ys h =
@@ -236,7 +238,8 @@ coll_inst_same line other xs ys h =
     let scale3 = scale3_same xs ys h in
     let instance_properties = messages_same name.InstanceProperties inst_props_of inst_props_tree inst_props_same xs ys h in
     let unknown = unknown_same messages.CollInst xs ys h in
-    (id, (collection, same_behind _ _ _ _ (same_behind _ _ _ _ (same_behind _ _ _ _ (same_behind _ _ _ _ position rotation) scale3) instance_properties) unknown))
+    let placed = same_behind _ _ _ _ (same_behind _ _ _ _ position rotation) scale3 in
+    (id, (collection, same_behind _ _ _ _ (same_behind _ _ _ _ placed instance_properties) unknown))
 
 pub coll_same : (xs ys : List Field) → AreSame xs ys → AreSame (coll_tree (coll_of xs)) (coll_tree (coll_of ys))
 coll_same xs ys h =
@@ -246,4 +249,5 @@ coll_same xs ys h =
     let embedded_instances = messages_same name.EmbeddedInstances embed_inst_of embed_inst_tree embed_inst_same xs ys h in
     let collection_instances = messages_same name.CollectionInstances coll_inst_of coll_inst_tree coll_inst_same xs ys h in
     let unknown = unknown_same messages.Coll xs ys h in
-    (title, same_behind _ _ _ _ (same_behind _ _ _ _ (same_behind _ _ _ _ (same_behind _ _ _ _ switch instances) embedded_instances) collection_instances) unknown)
+    let listed = same_behind _ _ _ _ (same_behind _ _ _ _ switch instances) embedded_instances in
+    (title, same_behind _ _ _ _ (same_behind _ _ _ _ listed collection_instances) unknown)

@@ -7,10 +7,11 @@
 //! In reading order: `descs` is what files say, `known` has one table for each message, of its known fields in
 //! canonical order, `words` are the bare words, `refusal` and `check` the first fault of a tree, by the tables,
 //! `lookups` what the fields of a message without fault give, `copying` copies unknown ones, `fields` puts fields
-//! behind others, `part` is a message that can be read and printed, `parts` are the eight of them, and `reading` and
-//! `printing` take whole files. `specs/` says the same in the same order: the tables (`Known`), the words (`Words`),
-//! the first fault (`Faults`), what the fields give (`Lookups`), what each message says (`Descs`), and the tree that
-//! it is printed as (`Trees`).
+//! behind others, `part` is a message that can be read and printed, `parts` are the eight of them, `reading` and
+//! `printing` take whole files, and `laws` says that what is printed reads again and is printed as the same text.
+//! `specs/` says the same in the same order: the tables (`Known`), the words (`Words`), the first fault (`Faults`),
+//! what the fields give (`Lookups`), what each message says (`Descs`), the tree that it is printed as (`Trees`), what
+//! that tree reads as (`Canonical`), and which texts are formatted (`Formatted`).
 #![tactic(auto)]
 
 mod check;
