@@ -1,0 +1,8 @@
+mod Agrees
+mod Finishing
+mod Numerals
+mod Refusing
+mod Short
+mod Using
+mod Walking
+mod Wholes
