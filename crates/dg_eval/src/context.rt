@@ -25,6 +25,7 @@ pub struct Context<S: Schema, M: Mark<Of = Revision<S>>> {
     known: Snapshot,
     results: Results,
     hits: EndSet,
+    made: u64,
 }
 
 impl<S: Schema, M: Mark<Of = Revision<S>>> Model for Context<S, M> {
@@ -36,7 +37,7 @@ impl<S: Schema, M: Mark<Of = Revision<S>>> Model for Context<S, M> {
 
     ghost coded = { evaluating_code seen_code M.code };
 
-    ghost view = { λ c. record { ticket = c.ticket; known = c.known; results = c.results; hits = c.hits } };
+    ghost view = { λ c. record { ticket = c.ticket; known = c.known; results = c.results; hits = c.hits; made = c.made } };
 
     ghost invariant = { λ c. AreValues S.tables c.ticket.revision.graph c.known × AreValues S.tables c.ticket.revision.graph c.results };
 }
@@ -53,6 +54,7 @@ impl<S: Schema, M: Mark<Of = Revision<S>>> Context<S, M> {
             known: snapshot,
             results: Results::new(alloc),
             hits: EndSet::new(alloc),
+            made: 0,
         }
     }
 
@@ -71,12 +73,30 @@ impl<S: Schema, M: Mark<Of = Revision<S>>> Context<S, M> {
         ensures kept { take (length self.old.results) self.new.results ≡ self.old.results }
         ensures walk { OnOk result (walked self.new ≡ walked_on S.tables self.old at) }
         ensures steps { OnOk result (steps.new ≡ steps.old + productions_due S.tables self.old at) }
+        ensures made { OnOk result (self.new.made ≡ self.old.made + productions_due S.tables self.old at) }
         ensures most { steps.new ≤ steps.old + productions_due S.tables self.old at }
     {
         let graph = self.ticket.revision().graph();
         let results = &mut self.results;
         let hits = &mut self.hits;
-        evaluate::<S, L>(self.alloc, graph, &self.known, results, hits, at, steps)
+        let made = &mut self.made;
+        evaluate::<S, L>(
+            self.alloc,
+            graph,
+            &self.known,
+            results,
+            hits,
+            made,
+            at,
+            steps,
+        )
+    }
+
+    /// How many productions the answered evaluations took.
+    pub fn made(&self) -> u64
+        ensures { result ≡ self.now.made }
+    {
+        self.made
     }
 
     /// What the evaluation of an endpoint offers to a shared cache, where it was the only one and was

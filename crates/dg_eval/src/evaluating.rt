@@ -10,6 +10,7 @@ ghost use Rattle.dg_eval.specs.Frames.{frames_after, ends_after};
 use crate::end_set::EndSet;
 use crate::frame::Frame;
 use crate::looking::{finished, look};
+use crate::producing::productions_by;
 use crate::results::Results;
 use dg_answer::answer_from;
 use dg_base::{Endpoint, Held, Schema, Steps};
@@ -19,7 +20,8 @@ use std::alloc::{AllocError, Global};
 use std::sync::ledger::Ledger;
 
 /// The value of an endpoint. Each endpoint that is finished on the way is added to the results, and each
-/// known one that is met is noted among the hits. In time linear in what is met, each with the cost of its
+/// known one that is met is noted among the hits. The productions are added to `made`, beside the count of
+/// `steps`, which no program can read. In time linear in what is met, each with the cost of its
 /// rule and its production.
 pub(crate) fn evaluate<S: Schema, L: Ledger>(
     alloc: Global,
@@ -27,6 +29,7 @@ pub(crate) fn evaluate<S: Schema, L: Ledger>(
     known: &Snapshot,
     results: &mut Results,
     hits: &mut EndSet,
+    made: &mut u64,
     at: Endpoint,
     steps: &mut Steps<L>,
 ) -> Result<Held, AllocError>
@@ -37,6 +40,7 @@ pub(crate) fn evaluate<S: Schema, L: Ledger>(
     ensures kept { take (length results.old) results.new ≡ results.old }
     ensures walk { OnOk result (so_far results.new hits.new ≡ evaluated S.tables graph.now (ends_of known.now) (so_far results.old hits.old) at) }
     ensures steps { OnOk result (steps.new ≡ steps.old + productions S.tables graph.now (newly_listed S.tables graph.now (ends_of known.now) (so_far results.old hits.old) at)) }
+    ensures made { OnOk result (made.new ≡ made.old + productions S.tables graph.now (newly_listed S.tables graph.now (ends_of known.now) (so_far results.old hits.old) at)) }
     ensures most { steps.new ≤ steps.old + productions S.tables graph.now (newly_listed S.tables graph.now (ends_of known.now) (so_far results.old hits.old) at) }
 {
     graph.is_sound();
@@ -56,13 +60,23 @@ pub(crate) fn evaluate<S: Schema, L: Ledger>(
             }
             None => {
                 let answers = frame.answers.as_slice();
+                let more = productions_by::<S>(alloc, &frame.rule, answers)?;
+                let total = sum(*made, more)?;
                 let answer = answer_from::<S, L>(alloc, frame.at, &frame.rule, answers, steps)?;
                 way.drop_last();
                 results.push(frame.at, answer)?;
+                *made = total;
             }
         }
     }
     Ok(finished(results, at)?)
+}
+
+// A sum that has more than 64 bits is refused as want of memory is.
+fn sum(made: u64, more: u64) -> Result<u64, AllocError>
+    ensures { IfOk result (λ n. n ≡ made + more) }
+{
+    made.checked_add(more).ok_or(AllocError)
 }
 
 // After a look at the next endpoint that the last frame needs: its value is with the frame, or it is opened.

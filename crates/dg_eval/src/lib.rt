@@ -16,6 +16,7 @@ mod results;
 // What is asked of an endpoint.
 mod cached;
 mod looking;
+mod producing;
 // The walk.
 mod context;
 mod evaluating;

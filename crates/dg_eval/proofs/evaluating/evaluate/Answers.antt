@@ -30,6 +30,15 @@ returns-in-Some-clause-walk g c =
     ap (so_far c.args.results.now) hits_is
     ∙ met_walk g.S.Schema.tables c.args.graph.now c.args.known.now c.args.results.now c.args.hits.now c.args.at c.in-Some.answer (search rules)
 
+pub returns-in-Some-clause-made : goal.returns-in-Some-clause-made
+returns-in-Some-clause-made g c =
+    let hits_is : c.look.new.hits ≡ hits_after false c.args.results.now c.args.known.now c.args.hits.now c.args.at = search rules in
+    let walk =
+    ap (so_far c.args.results.now) hits_is
+    ∙ met_walk g.S.Schema.tables c.args.graph.now c.args.known.now c.args.results.now c.args.hits.now c.args.at c.in-Some.answer (search rules) in
+    counted-all g.S.Schema.tables c.args.graph.now (ends_of c.args.known.now) (so_far c.args.results.now c.args.hits.now) c.args.at c.args.made.now c.args.made.now
+    (so_far c.args.results.now c.look.new.hits) walk refl
+
 pub returns-in-Some-clause-steps : goal.returns-in-Some-clause-steps
 returns-in-Some-clause-steps g c =
     let hits_is : c.look.new.hits ≡ hits_after false c.args.results.now c.args.known.now c.args.hits.now c.args.at = search rules in
@@ -50,6 +59,7 @@ loop-frame-init g c =
       way = way_is ∙ ap ends_open (sym stack);
       kept = begins-same c.args.results.now;
       steps = refl;
+      made = refl;
     }
 
 pub returns-in_err-answer-in-Some-next-clause-most : goal.returns-in_err-answer-in-Some-next-clause-most
@@ -86,6 +96,7 @@ loop-frame-preserved-in_ok-go_on-in-Some-next g c =
           ∙ ap ends_open (sym stack_is);
       kept = c.loop-frame.invariant.kept;
       steps = c.loop-frame.invariant.steps;
+      made = c.loop-frame.invariant.made;
     }
 
 pub answer_from-requires : goal.answer_from-requires
@@ -150,6 +161,8 @@ loop-frame-preserved g c =
       kept = begins-then c.args.results.now c.loop-frame.results c.push-in-None.new.self c.loop-frame.invariant.kept (record { at = f.at; value = a } ∷ [], results);
       steps = counted-push t graph isf (ends_of c.args.results.now) c.loop-frame.results c.push-in-None.new.self a c.args.steps.now c.loop-frame.steps c.answer_from.new.steps results
           (c.in_ok-answer-in-None.ensures.steps (value_at t graph) named) c.loop-frame.invariant.steps;
+      made = counted-push t graph isf (ends_of c.args.results.now) c.loop-frame.results c.push-in-None.new.self a c.args.made.now c.loop-frame.made c.in_ok-total-in-None.total results
+          (c.in_ok-total-in-None.ensures ∙ ap (λ n. c.loop-frame.made + n) (c.in_ok-more-in-None.ensures (value_at t graph) named)) c.loop-frame.invariant.made;
     }
 
 pub loop-frame-smaller-in_ok-go_on-in-Some-next : goal.loop-frame-smaller-in_ok-go_on-in-Some-next
@@ -195,7 +208,29 @@ returns-clause-steps g c =
     counted-all g.S.Schema.tables c.args.graph.now (ends_of c.args.known.now) (so_far c.args.results.now c.args.hits.now) c.args.at c.args.steps.now c.loop-frame.steps
     (so_far c.loop-frame.results c.loop-frame.hits) (all_done c.loop-frame.invariant.going (search rules)) c.loop-frame.invariant.steps
 
+pub returns-clause-made : goal.returns-clause-made
+returns-clause-made g c =
+    counted-all g.S.Schema.tables c.args.graph.now (ends_of c.args.known.now) (so_far c.args.results.now c.args.hits.now) c.args.at c.args.made.now c.loop-frame.made
+    (so_far c.loop-frame.results c.loop-frame.hits) (all_done c.loop-frame.invariant.going (search rules)) c.loop-frame.invariant.made
+
 pub returns-clause-most : goal.returns-clause-most
 returns-clause-most g c =
+    counted-most g.S.Schema.tables c.args.graph.now (ends_of c.args.known.now) (so_far c.args.results.now c.args.hits.now) c.args.at c.args.steps.now c.loop-frame.steps (ends_of c.loop-frame.results)
+    (listed_so_far g.S.Schema.tables c.args.graph.now c.loop-frame.invariant.going) c.loop-frame.invariant.steps
+
+pub productions_by-requires : goal.productions_by-requires
+productions_by-requires g c =
+    let going = going-is c.loop-frame.invariant.going (sym c.in-Some-pop.ensures.items) refl refl in
+    let slice : c.in-Some-pop.frame.answers ≡ c.as_slice-answers.result.now = search rules in
+    subst (λ (z : List Answer). length (named_by c.in-Some-pop.frame.rule) ≡ length z) slice (
+    frame_enough (last c.is_sound.ensures g.met.S.Schema.laws c.pop.new.self.items c.in-Some-pop.frame going) (sym c.in-None.ensures))
+
+pub returns-in_err-more-in-None-clause-most : goal.returns-in_err-more-in-None-clause-most
+returns-in_err-more-in-None-clause-most g c =
+    counted-most g.S.Schema.tables c.args.graph.now (ends_of c.args.known.now) (so_far c.args.results.now c.args.hits.now) c.args.at c.args.steps.now c.loop-frame.steps (ends_of c.loop-frame.results)
+    (listed_so_far g.S.Schema.tables c.args.graph.now c.loop-frame.invariant.going) c.loop-frame.invariant.steps
+
+pub returns-in_err-total-in-None-clause-most : goal.returns-in_err-total-in-None-clause-most
+returns-in_err-total-in-None-clause-most g c =
     counted-most g.S.Schema.tables c.args.graph.now (ends_of c.args.known.now) (so_far c.args.results.now c.args.hits.now) c.args.at c.args.steps.now c.loop-frame.steps (ends_of c.loop-frame.results)
     (listed_so_far g.S.Schema.tables c.args.graph.now c.loop-frame.invariant.going) c.loop-frame.invariant.steps

@@ -15,6 +15,7 @@ invariant-loop-frame g l = record {
   way : l.way ≡ ends_open l.stack.items;
   kept : Begins l.fn.results l.results;
   steps : IsCounted g.S.Schema.tables l.graph l.fn.steps l.steps (ends_of l.fn.results) (ends_of l.results);
+  made : IsCounted g.S.Schema.tables l.graph l.fn.made l.made (ends_of l.fn.results) (ends_of l.results);
 }
 
 abbrev pub decreases-loop-frame : goal.decreases-loop-frame
