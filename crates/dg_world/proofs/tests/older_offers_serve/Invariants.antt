@@ -1,0 +1,4 @@
+use Rattle.dg_world.proofs.tests.older_offers_serve.Given as goal
+
+abbrev pub ghosts-played : goal.ghosts-played
+ghosts-played g a = record { name = a.blank.name; parts = a.blank.parts }
