@@ -16,6 +16,9 @@ use Rattle.dg_cache.proofs.Ends.{outside_one, once_filter, once_front, once_head
 use Rattle.dg_cache.proofs.Listing.{kept, ends-kept, at_agree, entry-at_all, own_entries, ends-at, entry_front, ends_front, others_same, front_absent}
 use Rattle.dg_cache.proofs.Ordering.{ends-in_order, entry-in_order, in_order-is, in_order-agree, in_order-kept, in_order-front, rise-in_order}
 
+pub laid_out-rise : {c : ℕ} {ends : List Endpoint} {values : List Entry} → IsLaidOut c ends values → IsTrue (ends_rise (ends_of values))
+laid_out-rise {c} {ends} {values} l = ap ends_rise l.same ∙ ordered-rise ends_rank ends
+
 -- what a layout shows of its entries
 pub record IsShown (capacity : ℕ) (ends : List Endpoint) (values : List Entry) (es : List Entry) : Type 0 where
   pub some : 1 ≤ capacity
@@ -26,7 +29,7 @@ pub record IsShown (capacity : ℕ) (ends : List Endpoint) (values : List Entry)
 
 pub shown : {c : ℕ} {ends : List Endpoint} {values : List Entry} → IsLaidOut c ends values → IsShown c ends values (entries_at ends values)
 shown {c} {ends} {values} l =
-    let values_once : IsTrue (ends_once (ends_of values)) = rise_once (ends_of values) (ap ends_rise l.same ∙ ordered-rise ends_rank ends) in
+    let values_once : IsTrue (ends_once (ends_of values)) = rise_once (ends_of values) (laid_out-rise l) in
     let same : (e : Endpoint) → is_end_among ends e ≡ is_end_among (ends_of values) e = λ e. sym (ap (λ (z : List Endpoint). is_end_among z e) l.same ∙ ordered-among ends_rank ends e) in
     let is : ends_of (entries_at ends values) ≡ ends = ends-at ends values values_once (λ e k. sym (same e) ∙ k) in
     record {
@@ -34,7 +37,7 @@ shown {c} {ends} {values} l =
       short = let m = ap length is in let n = length-map (entries_at ends values) (λ (x : Entry). x.at) in let s = l.short in omega (arith, m, n, s);
       once = ap ends_once is ∙ l.once;
       recent = sym is;
-      ordered = in_order-is values (entries_at ends values) (ap ends_rise l.same ∙ ordered-rise ends_rank ends) (λ e. sym (entry-at_all e ends values l.once (same e)));
+      ordered = in_order-is values (entries_at ends values) (laid_out-rise l) (λ e. sym (entry-at_all e ends values l.once (same e)));
     }
 
 pub laid_out : {c : ℕ} {ends : List Endpoint} {values es : List Entry} → IsShown c ends values es → IsLaidOut c ends values

@@ -1,5 +1,9 @@
 -- How a cache is kept: its endpoints, most recent first, and its entries in endpoint order.
 use Rattle.std.specs.Prelude.{◌≡◌, ◌≤◌, ℕ, List, [], ◌∷◌, ◌||◌, cond, not, filter, nat_lt, length, Option, Some, None, IsTrue}
+use Rattle.std.specs.Arc.{arc_value}
+use Rattle.std.specs.declared.alloc.Global.{Global}
+use Rattle.std.specs.declared.sync.Arc.{Arc}
+use Rattle.std.specs.declared.vec.Vec.{Vec}
 use Rattle.dg_base.specs.declared.ids.Endpoint.{Endpoint}
 use Rattle.dg_base.specs.declared.answer.Answer.{Answer}
 use Rattle.dg_base.specs.Same.{same_end}
@@ -14,10 +18,14 @@ pub record IsLaidOut (capacity : ℕ) (ends : List Endpoint) (values : List Entr
   pub once : IsTrue (ends_once ends)
   pub same : ends_of values ≡ ordered ends
 
--- the entries of a list that may be missing
-abbrev pub items_of : {X : Type 0} → (X → List Entry) → Option X → List Entry
-items_of items None = []
-items_of items (Some list) = items list
+-- a list of entries behind a counted pointer
+abbrev pub Shelf : Type 0
+Shelf = Option (Arc (Vec Entry Global) Global)
+
+-- there are none where there is no list
+abbrev pub shelved : Shelf → List Entry
+shelved None = []
+shelved (Some list) = (arc_value list).items
 
 -- the entries without those of an endpoint, if one is named
 abbrev pub leaving : Option Endpoint → List Entry → List Entry

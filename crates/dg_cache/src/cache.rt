@@ -5,11 +5,12 @@ ghost use Rattle.dg_cache.specs.declared.cache.EvictEnd.{EvictEnd};
 ghost use Rattle.dg_cache.specs.declared.cache.EvictEnd.TheVariants as evict_end;
 ghost use Rattle.dg_cache.specs.Entries.{ends_of, in_order, others, put_entry, to_front, without};
 ghost use Rattle.dg_cache.specs.Caches.{IsCached, evicted, holding};
-ghost use Rattle.dg_cache.specs.Layout.{dropped_for, last_end};
+ghost use Rattle.dg_cache.specs.Layout.{dropped_for, last_end, shelved};
 
+use crate::ordered::value_in;
 use crate::recent::{keep_others, keep_outside, put_front, put_over};
-use crate::values::Values;
-use crate::{Entry, Snapshot};
+use crate::values::{Values, entries_of, share};
+use crate::{Entry, Snapshot, values};
 use dg_base::{Endpoint, Held};
 use std::alloc::{AllocError, Global};
 use std::marker::Model;
@@ -40,15 +41,15 @@ pub struct Cache {
 impl Model for Cache {
     ghost use Rattle.dg_cache.specs.Entries.{entries_at};
     ghost use Rattle.dg_cache.specs.Caches.{Cached, cached_code};
-    ghost use Rattle.dg_cache.specs.Layout.{IsLaidOut};
+    ghost use Rattle.dg_cache.specs.Layout.{IsLaidOut, shelved};
 
     ghost Value = { Cached };
 
     ghost coded = { cached_code };
 
-    ghost view = { λ c. record { capacity = c.capacity; entries = entries_at c.recent.items c.values } };
+    ghost view = { λ c. record { capacity = c.capacity; entries = entries_at c.recent.items (shelved c.values) } };
 
-    ghost invariant = { λ c. IsLaidOut c.capacity c.recent.items c.values };
+    ghost invariant = { λ c. IsLaidOut c.capacity c.recent.items (shelved c.values) };
 }
 
 impl Cache {
@@ -61,7 +62,7 @@ impl Cache {
             alloc,
             capacity,
             recent: Vec::new(alloc),
-            values: Values::none(),
+            values: None,
         }
     }
 
@@ -89,8 +90,15 @@ impl Cache {
     pub fn snapshot(&self) -> Result<Snapshot, AllocError>
         ensures { IfOk result (λ s. s ≡ in_order self.now.entries) }
     {
-        let values = self.values.share()?;
+        let values = share(&self.values)?;
         Ok(Snapshot::of(values))
+    }
+
+    // Whether an endpoint has an entry. In logarithmic time.
+    fn has(&self, at: Endpoint) -> bool
+        ensures { result ≡ is_end_among (ends_of self.now.entries) at }
+    {
+        value_in(entries_of(&self.values), at).is_some()
     }
 
     /// Puts an endpoint's entry to the front, and answers whether there is one. It takes no memory. Linear
@@ -99,7 +107,7 @@ impl Cache {
         ensures there { result ≡ is_end_among (ends_of self.old.entries) at }
         ensures new { self.new ≡ holding self.old (to_front at self.old.entries) }
     {
-        if !self.values.has(at) {
+        if !self.has(at) {
             return false;
         }
         put_front(&mut self.recent, at);
@@ -115,7 +123,7 @@ impl Cache {
     {
         let last = self.dropped_for(at);
         self.recent.reserve(1)?;
-        self.values.put(self.alloc, Entry { at, value }, last)?;
+        values::put(&mut self.values, self.alloc, Entry { at, value }, last)?;
         put_over(&mut self.recent, at, last);
         Ok(())
     }
@@ -124,7 +132,7 @@ impl Cache {
     fn dropped_for(&self, at: Endpoint) -> Option<Endpoint>
         ensures { result ≡ dropped_for self.now at }
     {
-        if self.values.has(at) {
+        if self.has(at) {
             return None;
         }
         if self.len() < self.capacity as usize {
@@ -146,10 +154,10 @@ impl Cache {
         ensures ok { OnOk result (self.new ≡ holding self.old (others at self.old.entries)) }
         ensures err { OnErr result (self.new ≡ self.old) }
     {
-        if !self.values.has(at) {
+        if !self.has(at) {
             return Ok(false);
         }
-        self.values.take_out(at)?;
+        values::take_out(&mut self.values, at)?;
         keep_others(&mut self.recent, at);
         Ok(true)
     }
@@ -161,7 +169,7 @@ impl Cache {
         ensures ok { OnOk result (self.new ≡ holding self.old (without dirty.now self.old.entries)) }
         ensures err { OnErr result (self.new ≡ self.old) }
     {
-        self.values.retain_outside(dirty)?;
+        values::retain_outside(&mut self.values, dirty)?;
         keep_outside(&mut self.recent, dirty);
         Ok(())
     }
@@ -207,7 +215,7 @@ impl Cache {
         ensures { self.new ≡ holding self.old [] }
     {
         self.recent.clear();
-        self.values = Values::none();
+        self.values = None;
     }
 }
 

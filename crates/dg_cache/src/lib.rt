@@ -15,8 +15,11 @@ mod values;
 // The endpoints by how recent they are, and the cache.
 mod cache;
 mod recent;
+// Tests and callers.
 #[cfg(test)]
 mod tests;
+#[cfg(test)]
+mod uses;
 
 pub use cache::{Cache, EvictEnd, Evicted};
 pub use entry::Entry;

@@ -1,5 +1,5 @@
 //! Entries in endpoint order.
-ghost use Rattle.std.specs.Prelude.{◌≡◌, ◌<◌, ◌≤◌, ◌∷◌, [], false, IfOk, OnOk, OnErr, IsTrue, vec_len, vec_capacity};
+ghost use Rattle.std.specs.Prelude.{◌≡◌, ◌<◌, ◌≤◌, ◌∷◌, false, IsTrue, vec_len, vec_capacity};
 ghost use Rattle.std.specs.Option.{option_copied};
 ghost use Rattle.dg_base.specs.Order.{ends_rise, is_end_among, is_end_before};
 ghost use Rattle.dg_cache.specs.Entries.{ends_of, in_order, others, value_in, without};
@@ -8,95 +8,6 @@ ghost use Rattle.dg_cache.specs.Layout.{leaving, value_of};
 use crate::Entry;
 use dg_base::{Endpoint, Held};
 use sqlite_items::at as item_at;
-use std::alloc::{AllocError, Global};
-use std::marker::Model;
-
-/// Entries in endpoint order, each endpoint once.
-#[derive(Drop)]
-pub(crate) struct Ordered {
-    alloc: Global,
-    entries: Vec<Entry>,
-}
-
-impl Model for Ordered {
-    ghost use Rattle.std.specs.Prelude.{List, IsTrue};
-    ghost use Rattle.std.specs.Coded.{coded_list};
-    ghost use Rattle.dg_base.specs.Order.{ends_rise};
-    ghost use Rattle.dg_cache.specs.declared.entry.Entry.{Entry};
-    ghost use Rattle.dg_cache.specs.contracts.entry.Entry as entry_type;
-    ghost use Rattle.dg_cache.specs.Entries.{ends_of};
-
-    ghost Value = { List Entry };
-
-    ghost coded = { coded_list entry_type.the_row.coded };
-
-    ghost view = { λ o. o.entries.items };
-
-    ghost invariant = { λ o. IsTrue (ends_rise (ends_of o.entries.items)) };
-}
-
-impl Ordered {
-    pub(crate) fn new(alloc: Global) -> Ordered
-        ensures { result ≡ [] }
-    {
-        Ordered {
-            alloc,
-            entries: Vec::new(alloc),
-        }
-    }
-
-    pub(crate) fn as_slice(&self) -> &[Entry]
-        ensures entries { result.now ≡ self.now }
-        ensures in_order { IsTrue (ends_rise (ends_of self.now)) }
-    {
-        self.entries.as_slice()
-    }
-
-    /// Puts an entry in place of the one of its endpoint, and drops the entry of another one, if one is
-    /// named. Where memory is refused, nothing changed.
-    pub(crate) fn put(&mut self, entry: Entry, gone: Option<Endpoint>) -> Result<(), AllocError>
-        ensures ok { OnOk result (self.new ≡ in_order (entry ∷ others entry.at (leaving gone self.old))) }
-        ensures err { OnErr result (self.new ≡ self.old) }
-    {
-        self.entries.reserve(1)?;
-        put_in(&mut self.entries, entry, gone);
-        Ok(())
-    }
-
-    pub(crate) fn take_out(&mut self, at: Endpoint)
-        ensures { self.new ≡ others at self.old }
-    {
-        keep_others(&mut self.entries, at);
-    }
-
-    pub(crate) fn retain_outside(&mut self, gone: &[Endpoint])
-        ensures { self.new ≡ without gone.now self.old }
-    {
-        keep_outside(&mut self.entries, gone);
-    }
-}
-
-impl Clone for Ordered {
-    ghost is_clone = { λ a b. b ≡ a };
-
-    fn clone(&self) -> Result<Ordered, AllocError> {
-        let entries = copied(self.alloc, &self.entries)?;
-        Ok(Ordered {
-            alloc: self.alloc,
-            entries,
-        })
-    }
-}
-
-fn copied(alloc: Global, entries: &[Entry]) -> Result<Vec<Entry>, AllocError>
-    ensures { IfOk result (λ v. v.items ≡ entries.now) }
-{
-    let mut all = Vec::new(alloc);
-    for entry in entries {
-        all.push(entry.share()?)?;
-    }
-    Ok(all)
-}
 
 /// The answer of an endpoint among entries in order, found by halves.
 pub(crate) fn value_in(entries: &[Entry], at: Endpoint) -> Option<&Held>
@@ -124,7 +35,8 @@ fn is_before(a: Endpoint, b: Endpoint) -> bool
     a.node.0 < b.node.0 || (a.node.0 == b.node.0 && a.label.0 < b.label.0)
 }
 
-fn put_in(list: &mut Vec<Entry>, entry: Entry, gone: Option<Endpoint>)
+/// Puts an entry in place of the one of its endpoint, and drops the entry of another one, if one is named.
+pub(crate) fn put_in(list: &mut Vec<Entry>, entry: Entry, gone: Option<Endpoint>)
     requires rise { IsTrue (ends_rise (ends_of list.old.items)) }
     requires room { vec_len list.old < vec_capacity list.old }
     ensures { list.new.items ≡ in_order (entry ∷ others entry.at (leaving gone list.old.items)) }
@@ -155,7 +67,7 @@ fn insert(list: &mut Vec<Entry>, entry: Entry)
     let _ = list.insert(place, entry);
 }
 
-fn keep_others(list: &mut Vec<Entry>, at: Endpoint)
+pub(crate) fn keep_others(list: &mut Vec<Entry>, at: Endpoint)
     ensures items { list.new.items ≡ others at list.old.items }
     ensures len { vec_len list.new ≤ vec_len list.old }
     ensures capacity { vec_capacity list.new ≡ vec_capacity list.old }
@@ -163,7 +75,7 @@ fn keep_others(list: &mut Vec<Entry>, at: Endpoint)
     list.retain(|entry| entry.at != at);
 }
 
-fn keep_outside(list: &mut Vec<Entry>, gone: &[Endpoint])
+pub(crate) fn keep_outside(list: &mut Vec<Entry>, gone: &[Endpoint])
     ensures { list.new.items ≡ without gone.now list.old.items }
 {
     list.retain(|entry| !gone.contains(&entry.at));

@@ -3,9 +3,11 @@ ghost use Rattle.std.specs.Prelude.{◌≡◌, ◌↔◌, [], IfOk, IsTrue};
 ghost use Rattle.std.specs.Option.{option_copied};
 ghost use Rattle.dg_base.specs.Order.{ends_rise};
 ghost use Rattle.dg_cache.specs.Entries.{ends_of, value_in};
+ghost use Rattle.dg_cache.specs.Layout.{shelved};
 
 use crate::Entry;
-use crate::values::Values;
+use crate::ordered::value_in;
+use crate::values::{Values, entries_of, share};
 use dg_base::{Endpoint, Held};
 use std::alloc::AllocError;
 use std::marker::Model;
@@ -17,16 +19,21 @@ pub struct Snapshot {
 }
 
 impl Model for Snapshot {
-    ghost use Rattle.std.specs.Prelude.{List};
+    ghost use Rattle.std.specs.Prelude.{List, IsTrue};
     ghost use Rattle.std.specs.Coded.{coded_list};
+    ghost use Rattle.dg_base.specs.Order.{ends_rise};
     ghost use Rattle.dg_cache.specs.declared.entry.Entry.{Entry};
     ghost use Rattle.dg_cache.specs.contracts.entry.Entry as entry_type;
+    ghost use Rattle.dg_cache.specs.Entries.{ends_of};
+    ghost use Rattle.dg_cache.specs.Layout.{shelved};
 
     ghost Value = { List Entry };
 
     ghost coded = { coded_list entry_type.the_row.coded };
 
-    ghost view = { λ s. s.values };
+    ghost view = { λ s. shelved s.values };
+
+    ghost invariant = { λ s. IsTrue (ends_rise (ends_of (shelved s.values))) };
 }
 
 impl Snapshot {
@@ -34,13 +41,12 @@ impl Snapshot {
     pub fn none() -> Snapshot
         ensures { result ≡ [] }
     {
-        Snapshot {
-            values: Values::none(),
-        }
+        Snapshot { values: None }
     }
 
     pub(crate) fn of(values: Values) -> Snapshot
-        ensures { result ≡ values }
+        requires { IsTrue (ends_rise (ends_of (shelved values))) }
+        ensures { result ≡ shelved values }
     {
         Snapshot { values }
     }
@@ -49,7 +55,7 @@ impl Snapshot {
     pub fn get(&self, at: Endpoint) -> Option<&Held>
         ensures { option_copied result ≡ value_in self.now at }
     {
-        self.values.get(at)
+        value_in(self.as_slice(), at)
     }
 
     /// The entries, in endpoint order.
@@ -57,20 +63,20 @@ impl Snapshot {
         ensures entries { result.now ≡ self.now }
         ensures in_order { IsTrue (ends_rise (ends_of self.now)) }
     {
-        self.values.as_slice()
+        entries_of(&self.values)
     }
 
     pub fn is_empty(&self) -> bool
         ensures { IsTrue result ↔ (self.now ≡ []) }
     {
-        self.values.as_slice().is_empty()
+        self.as_slice().is_empty()
     }
 
     /// The same snapshot once more. In constant time.
     pub fn share(&self) -> Result<Snapshot, AllocError>
         ensures { IfOk result (λ s. s ≡ self.now) }
     {
-        let values = self.values.share()?;
+        let values = share(&self.values)?;
         Ok(Snapshot { values })
     }
 }

@@ -5,3 +5,4 @@ pub mod Coherence
 pub mod Desks
 pub mod Places
 pub mod Tickets
+pub mod Crosses

@@ -19,6 +19,9 @@ mod ticket;
 // Where it stands.
 mod line;
 mod own_line;
+mod rows;
+mod shared_line;
+mod shown;
 // How one follows another.
 mod link;
 // Worked cases, tests, and callers of each kind.
@@ -33,4 +36,7 @@ pub use line::Line;
 pub use link::{Link, follow};
 pub use own_line::{OwnLine, Unmarked};
 pub use revision::Revision;
+pub use rows::{LineName, Rows};
+pub use shared_line::SharedLine;
+pub use shown::Shown;
 pub use ticket::{Mark, Ticket};

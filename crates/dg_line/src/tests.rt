@@ -1,4 +1,4 @@
-use crate::uses::{begin, touch_own};
+use crate::uses::{begin, counts_alone, touch_own};
 use crate::{OwnLine, Revision};
 use dg_base::{Endpoint, Label, NodeId};
 use dg_kinds_go::GoKinds;
@@ -52,5 +52,12 @@ fn a_thousand_raises(rt: HostRuntime) -> Result<(), Fail> {
     assert_eq!(rt; here.revision().counters().get(end(500, 1)), 1_000);
     assert_eq!(rt; here.revision().counters().get(end(4_321, 3)), 1);
     assert_eq!(rt; here.revision().counters().get(end(4_000, 3)), 0);
+    Ok(())
+}
+
+// Shares of a line add to the same rows.
+#[test]
+fn shares_add_to_one_line(rt: HostRuntime) -> Result<(), Fail> {
+    assert!(rt; counts_alone(rt, rt.alloc(), end(2, 1))? == (2, 2));
     Ok(())
 }

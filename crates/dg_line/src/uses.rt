@@ -8,10 +8,15 @@ ghost use Rattle.dg_line.specs.Revisions.{Seen, counter_at, first_revision, foll
 ghost use Rattle.dg_line.specs.Links.{IsLink};
 ghost use Rattle.dg_line.specs.Tickets.{Pin};
 
-use crate::{Line, Link, Mark, OwnLine, Revision, Ticket, Unmarked, follow};
+use crate::{
+    Line, LineName, Link, Mark, OwnLine, Revision, Rows, SharedLine, Shown, Ticket, Unmarked,
+    follow,
+};
 use dg_base::{Endpoint, Schema};
+use dg_kinds_go::GoKinds;
 use dg_view::Graph;
 use std::alloc::{AllocError, Global};
+use std::marker::Brand;
 use std::sync::{Mutex, Wait};
 
 // ---- one that writes
@@ -61,6 +66,44 @@ pub(crate) fn touch_own<S: Schema>(
     ensures here { slice_get line.new here.new.index ≡ Some here.new.revision }
 {
     touch::<S, OwnLine<Revision<S>>>(alloc, line, here, touched)
+}
+
+// Two shares of one line, and a change by each: how often an endpoint was dirty, and the index.
+pub(crate) fn counts_shared<J: LineName, R: Wait + Drop + Copy>(
+    rt: R,
+    alloc: Global,
+    rows: Rows<Revision<GoKinds>>,
+    at: Endpoint,
+) -> Result<(u32, usize), AllocError>
+    requires { rows ≡ J.shelves }
+{
+    let mut line = SharedLine::<Revision<GoKinds>, J, R>::open(rt, rows);
+    let mut other = line.share()?;
+    let graph = Graph::<GoKinds>::new(alloc)?;
+    let mut here = begin::<GoKinds, SharedLine<Revision<GoKinds>, J, R>>(
+        alloc, &mut line, graph, 1,
+    )?;
+    let _ = touch_shared::<GoKinds, J, R>(alloc, &mut line, &mut here, &[at])?;
+    let _ = touch_shared::<GoKinds, J, R>(alloc, &mut other, &mut here, &[at])?;
+    Ok((here.revision().counters().get(at), here.index()))
+}
+
+pub(crate) fn counts_alone<R: Wait + Drop + Copy>(
+    rt: R,
+    alloc: Global,
+    at: Endpoint,
+) -> Result<(u32, usize), AllocError> {
+    let rows = Rows::new(alloc)?;
+    counts_shared::<Brand, R>(rt, alloc, rows, at)
+}
+
+pub(crate) fn touch_shared<S: Schema, J: LineName, R: Wait + Drop>(
+    alloc: Global,
+    line: &mut SharedLine<Revision<S>, J, R>,
+    here: &mut Ticket<Shown<Revision<S>, J>>,
+    touched: &[Endpoint],
+) -> Result<Option<Link<Shown<Revision<S>, J>>>, AllocError> {
+    touch::<S, SharedLine<Revision<S>, J, R>>(alloc, line, here, touched)
 }
 
 // ---- one that follows
@@ -118,6 +161,32 @@ pub(crate) fn follow_schema<S: Schema, M: Mark<Of = Revision<S>>, N: Line<Revisi
     reader.follow(line, link, at)
 }
 
+pub(crate) fn follow_own<S: Schema>(
+    reader: &mut Reader<Unmarked<Revision<S>>>,
+    line: &OwnLine<Revision<S>>,
+    link: Link<Unmarked<Revision<S>>>,
+    at: Endpoint,
+) -> bool
+    requires here { slice_get line.now reader.old.here.index ≡ Some reader.old.here.revision }
+    requires from { slice_get line.now link.from.index ≡ Some link.from.revision }
+    requires index { reader.old.here.index ≡ link.from.index }
+    ensures link { IsLink S.tables reader.old.here.revision reader.new.here.revision link.dirty }
+{
+    follow_schema::<S, Unmarked<Revision<S>>, OwnLine<Revision<S>>>(reader, line, link, at)
+}
+
+pub(crate) fn follow_shared<S: Schema, J: LineName, R: Wait + Drop>(
+    reader: &mut Reader<Shown<Revision<S>, J>>,
+    line: &SharedLine<Revision<S>, J, R>,
+    link: Link<Shown<Revision<S>, J>>,
+    at: Endpoint,
+) -> bool
+    requires { reader.old.here.index ≡ link.from.index }
+    ensures { IsLink S.tables reader.old.here.revision reader.new.here.revision link.dirty }
+{
+    follow_schema::<S, Shown<Revision<S>, J>, SharedLine<Revision<S>, J, R>>(reader, line, link, at)
+}
+
 // ---- one that threads share
 
 pub(crate) struct Room<D, N> {
@@ -149,4 +218,31 @@ where
 
 pub(crate) fn shares_own_link<S: Schema + Send + Sync>(link: &Link<Unmarked<Revision<S>>>) {
     is_shared(link);
+}
+
+pub(crate) fn shares_shared_line<
+    S: Schema + Send + Sync,
+    J: LineName + Send + Sync,
+    R: Wait + Drop + Send + Sync,
+>(line: &SharedLine<Revision<S>, J, R>, link: &Link<Shown<Revision<S>, J>>) {
+    is_shared(line);
+    is_shared(link);
+}
+
+impl<S: Schema, J: LineName, R: Wait + Drop> Room<
+    Reader<Shown<Revision<S>, J>>,
+    SharedLine<Revision<S>, J, R>,
+> {
+    pub(crate) fn shared_index<W: Wait>(&self, rt: &W) -> usize {
+        let desk = self.desk.lock(rt);
+        desk.here.index()
+    }
+}
+
+pub(crate) fn shares_shared_room<
+    S: Schema + Send + Sync,
+    J: LineName + Send + Sync,
+    R: Wait + Drop + Send + Sync,
+>(room: &Room<Reader<Shown<Revision<S>, J>>, SharedLine<Revision<S>, J, R>>) {
+    is_shared(room);
 }
