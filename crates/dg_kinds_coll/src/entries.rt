@@ -120,7 +120,8 @@ fn is_child(from: Option<&Datum>) -> bool
     flag_in(field_in(from, CHILD))
 }
 
-fn flag_in(datum: Option<&Datum>) -> bool
+/// Whether a value is the flag that says yes.
+pub fn flag_in(datum: Option<&Datum>) -> bool
     ensures { result ≡ flag_in (option_copied datum.entry) }
 {
     match datum {

@@ -25,4 +25,6 @@ mod tests;
 pub mod worked;
 
 pub use defold::{Defold, defold_made};
+pub use entries::flag_in;
+pub use places::place_in;
 pub use table::{COLL_KINDS, UNSCALED};

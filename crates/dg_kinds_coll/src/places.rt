@@ -9,7 +9,7 @@ use dg_kinds_go::{field_in, value_at};
 use dg_labels::labels::{POSITION, ROTATION, SCALE3};
 
 /// The place that a record says in its fields.
-pub(crate) fn place_in(from: Option<&Datum>) -> Transform
+pub fn place_in(from: Option<&Datum>) -> Transform
     ensures { result ≡ place_in (option_copied from.entry) }
 {
     place_of(

@@ -9,8 +9,9 @@ use dg_labels::label_name;
 use itoa::Buffer;
 use std::alloc::AllocError;
 
+/// The label's name: an open one's is the interned text, another's the schema's.
 #[tactic(auto, unfolding(crate::specs::Parts::name_of))]
-fn name_of(label: Label, names: &Names) -> Option<&str>
+pub fn name_of(label: Label, names: &Names) -> Option<&str>
     ensures { option_map (λ t. t.now) result ≡ name_of names.now label }
 {
     if label.is_open() {
@@ -45,8 +46,9 @@ pub(crate) fn put_endpoint(out: &mut Vec<u8>, at: Endpoint, names: &Names) -> Re
     put_label(out, at.label, names)
 }
 
+/// Puts a number of billionths behind what is there, as a decimal.
 #[tactic(auto, unfolding(crate::specs::Parts::number_text))]
-pub(crate) fn put_number(out: &mut Vec<u8>, number: &i64) -> Result<(), AllocError>
+pub fn put_number(out: &mut Vec<u8>, number: &i64) -> Result<(), AllocError>
     ensures { OnOk result (out.new.items ≡ out.old.items ++ number_text number.now) }
 {
     out.extend_from_slice(dg_decimal::print(*number).as_str().as_bytes())
@@ -98,7 +100,8 @@ pub(crate) fn code_text(code: FaultCode) -> &'static str
     }
 }
 
-pub(crate) fn type_word(ptype: PType) -> &'static str
+/// The word of a property's type.
+pub fn type_word(ptype: PType) -> &'static str
     ensures { result.now ≡ type_word ptype }
 {
     match ptype {

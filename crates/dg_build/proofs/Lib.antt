@@ -1,0 +1,6 @@
+pub mod EqualTexts
+pub mod Firsts
+pub mod Keys
+pub mod Numbered
+pub mod Kept
+pub mod Wholes
