@@ -4,3 +4,4 @@ pub mod Keys
 pub mod Numbered
 pub mod Kept
 pub mod Wholes
+pub mod Built

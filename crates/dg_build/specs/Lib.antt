@@ -6,4 +6,5 @@ pub mod Lines
 pub mod Objects
 pub mod Entries
 pub mod Targets
+pub mod Built
 pub mod Worked

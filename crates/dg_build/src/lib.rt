@@ -20,9 +20,12 @@ mod lines;
 mod objects;
 // The files in order.
 mod files;
+// What the outputs say of themselves.
+mod laws;
 #[cfg(test)]
 mod tests;
 pub mod worked;
 
 pub use files::targets;
+pub use laws::builds_say_their_paths;
 pub use target::{Target, Targets};
