@@ -18,11 +18,14 @@ vec3_numbers v = next_number v.x ++ next_number v.y ++ next_number v.z
 abbrev pub quat_numbers : V4 → List ℕ
 quat_numbers v = next_number v.x ++ next_number v.y ++ next_number v.z ++ next_number v.w
 
+-- how a line begins: its word, an id and a path
+abbrev pub line_begin : List ℕ → List ℕ → List ℕ → List ℕ
+line_begin word id path = word ++ codes " " ++ quoted id ++ codes " " ++ quoted path
+
 -- a component: its id, the path of what it is made of, and where it stands in its object
 abbrev pub component_line : List ℕ → List ℕ → Transform → List ℕ
 component_line id path place =
-    codes "component " ++ quoted id ++ codes " " ++ quoted path ++ vec3_numbers place.position ++ quat_numbers place.rotation
-    ++ codes "\n"
+    line_begin (codes "component") id path ++ vec3_numbers place.position ++ quat_numbers place.rotation ++ codes "\n"
 
 -- an open property: its name, its type word and its text
 abbrev pub property_line : List (List ℕ) → PropVal → List ℕ
@@ -37,7 +40,7 @@ collection_line name along_z = codes "collection " ++ quoted name ++ cond along_
 -- an object of a collection: its id, the path of its text, and where it stands
 abbrev pub object_line : List ℕ → List ℕ → Transform → List ℕ
 object_line id path place =
-    codes "object " ++ quoted id ++ codes " " ++ quoted path ++ vec3_numbers place.position ++ quat_numbers place.rotation
+    line_begin (codes "object") id path ++ vec3_numbers place.position ++ quat_numbers place.rotation
     ++ vec3_numbers place.scale ++ codes "\n"
 
 abbrev pub child_line : List ℕ → List ℕ

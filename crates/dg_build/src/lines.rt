@@ -2,7 +2,7 @@
 ghost use Rattle.std.specs.Prelude.{◌≡◌, ◌++◌, cond, codes, OnOk};
 ghost use Rattle.dg_text.specs.Quoted.{quoted};
 ghost use Rattle.dg_report.specs.Parts.{label_text};
-ghost use Rattle.dg_build.specs.Lines.{next_number, vec3_numbers, quat_numbers, component_line, property_line, collection_line, object_line, child_line};
+ghost use Rattle.dg_build.specs.Lines.{next_number, vec3_numbers, quat_numbers, line_begin, component_line, property_line, collection_line, object_line, child_line};
 
 use dg_base::{Label, Names, PropVal, V3, V4};
 use dg_geom::Transform;
@@ -35,6 +35,17 @@ fn put_quat(out: &mut Vec<u8>, v: &V4) -> Result<(), AllocError>
     put_next(out, &v.w)
 }
 
+// A word, an id and a path.
+fn put_line_begin(out: &mut Vec<u8>, word: &str, id: &str, path: &str) -> Result<(), AllocError>
+    ensures { OnOk result (out.new.items ≡ out.old.items ++ line_begin word.now id.now path.now) }
+{
+    out.extend_from_slice(word.as_bytes())?;
+    out.push(b' ')?;
+    put_quoted(out, id)?;
+    out.push(b' ')?;
+    put_quoted(out, path)
+}
+
 /// The line of a component: its id, the path of what it is made of, and where it stands.
 pub(crate) fn put_component_line(
     out: &mut Vec<u8>,
@@ -44,10 +55,7 @@ pub(crate) fn put_component_line(
 ) -> Result<(), AllocError>
     ensures { OnOk result (out.new.items ≡ out.old.items ++ component_line id.now path.now place.now) }
 {
-    out.extend_from_slice(b"component ")?;
-    put_quoted(out, id)?;
-    out.push(b' ')?;
-    put_quoted(out, path)?;
+    put_line_begin(out, "component", id, path)?;
     put_vec3(out, &place.position)?;
     put_quat(out, &place.rotation)?;
     out.push(b'\n')?;
@@ -110,10 +118,7 @@ pub(crate) fn put_object_line(
 ) -> Result<(), AllocError>
     ensures { OnOk result (out.new.items ≡ out.old.items ++ object_line id.now path.now place.now) }
 {
-    out.extend_from_slice(b"object ")?;
-    put_quoted(out, id)?;
-    out.push(b' ')?;
-    put_quoted(out, path)?;
+    put_line_begin(out, "object", id, path)?;
     put_vec3(out, &place.position)?;
     put_quat(out, &place.rotation)?;
     put_vec3(out, &place.scale)?;
