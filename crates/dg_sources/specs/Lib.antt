@@ -1,0 +1,4 @@
+-- In reading order: each module uses only the ones before it.
+pub mod Sorting
+pub mod Readings
+pub mod Project
