@@ -1,6 +1,7 @@
 mod Agrees
 mod Finishing
 mod Numerals
+mod Ranges
 mod Refusing
 mod Short
 mod Using

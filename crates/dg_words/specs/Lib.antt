@@ -5,4 +5,5 @@ pub mod Numbers
 pub mod Grammar
 pub mod Texts
 pub mod Tasks
+pub mod Ranges
 pub mod Commands

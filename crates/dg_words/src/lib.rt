@@ -8,10 +8,11 @@
 //!
 //! In reading order: `task` is what words say, `paths` and `numbers` what single words are, `commands` the
 //! command of each task, `texts` what a task's words give, and `reading` the whole. `specs/` has the grammar:
-//! `Paths`, `Numbers`, `Grammar`, `Texts`, `Tasks`.
+//! `Paths`, `Numbers`, `Grammar`, `Texts`, `Tasks`. [`laws`] says of every task that its numbers are in their ranges.
 #![tactic(auto)]
 
 mod commands;
+pub mod laws;
 mod numbers;
 mod paths;
 mod reading;
