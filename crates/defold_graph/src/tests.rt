@@ -65,8 +65,8 @@ fn scripts_in_a_folder_are_played_or_refused(rt: HostRuntime) -> Result<(), Fail
         ("begin\nmake Num a\n", 3, "error: script line 1 OpenBlock\n"),
         ("make Num \n", 3, "error: script line 1 Arity\n"),
         ("undo\n", 0, "1: NothingToUndo\n"),
-        ("evict 1\n", 3, NOT_BUILT),
-        ("make Collection c\n", 3, NOT_BUILT),
+        ("evict 1\n", 0, "1: ok\n"),
+        ("build c\n", 3, NOT_BUILT),
         ("ask now s.total\nmake Sum s\n", 0, "1: NoName\n2: ok\n"),
         (
             "begin\nmake Sum s\nset s.value 1\nend\n",

@@ -165,7 +165,7 @@ turn_of t s (act.Drop name) = dropped s name (pin_named s.pins name)
 turn_of t s (act.Ask pin at) = unchanged s (ask s pin at)
 turn_of t s (act.Alias name node) = alias s name (node_of_question (graph_now s) s.bound node)
 turn_of t s (act.Build node) = unchanged s NotBuilt
-turn_of t s (act.Evict most) = unchanged s NotBuilt
+turn_of t s (act.Evict most) = unchanged s Done
 
 -- a command's line in the script, with what the command prints
 pub record Line : Type 0 where

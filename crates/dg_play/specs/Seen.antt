@@ -16,7 +16,7 @@ abbrev pub pins_of : List CodePin → List Pinned
 pins_of ps = map pin_of ps
 
 abbrev pub state_of : CodeState → State
-state_of s = record { editor = editor_of s.editor; pins = pins_of s.pins.items; bound = s.bound; names = s.names }
+state_of s = record { editor = editor_of s.world.editor; pins = pins_of s.pins.items; bound = s.bound; names = s.names }
 
 abbrev pub reply_of : CodeReply → Reply
 reply_of reply.Done = Done

@@ -1,7 +1,10 @@
 -- What a put of all lines says of a whole run.
 use Rattle.std.proofs.Common.{◌≡◌, ◌⊎◌, List, ℕ, zero, suc, [], take, Option, Some, None, refl, sym, ap, ◌∙◌, subst, inl, inr, arith}
 use Rattle.std.proofs.lemmas.List.{append-nil}
-use Rattle.std.specs.Prelude.{Ok, Err}
+use Rattle.std.specs.Prelude.{Result, Ok, Err}
+use Rattle.dg_words.specs.declared.task.Task.{Task}
+use Rattle.dg_words.specs.declared.task.Usage.{Usage}
+use Rattle.dg_words.specs.Paths.{usage as no_task}
 use Rattle.std.specs.Option.{option_map}
 use Rattle.dg_base.specs.declared.refusal.Refusal.TheVariants as refusal
 use Rattle.dg_files.specs.Tree.{Tree}
@@ -9,6 +12,7 @@ use Rattle.dg_tool.specs.declared.status.Status.{Status}
 use Rattle.dg_tool.specs.declared.status.Status.TheVariants as status
 use Rattle.dg_tool.specs.declared.halt.Halt.{Halt}
 use Rattle.dg_tool.specs.declared.halt.Halt.TheVariants as halt
+use Rattle.dg_tool.specs.declared.output.Output.{Output}
 use Rattle.dg_tool.specs.Halts.{code_of, status_of, halt_lines}
 use Rattle.dg_tool.specs.Out.{Out, all_written, halted}
 use Rattle.dg_tool.specs.Printed.{GotAll, GotPrefix}
@@ -44,6 +48,14 @@ not_usage halt.NotBuilt is = omega (arith, ap code_of is)
 not_usage (halt.TooLarge what) is = omega (arith, ap code_of is)
 not_usage halt.FileFault is = omega (arith, ap code_of is)
 
+not_done : (h : Halt) → status_of h ≡ status.Done → ⊥
+not_done halt.NoInput is = omega (arith, ap code_of is)
+not_done (halt.BadLine line code) is = omega (arith, ap code_of is)
+not_done (halt.BadFile line code) is = omega (arith, ap code_of is)
+not_done halt.NotBuilt is = omega (arith, ap code_of is)
+not_done (halt.TooLarge what) is = omega (arith, ap code_of is)
+not_done halt.FileFault is = omega (arith, ap code_of is)
+
 not_sink_fault : (h : Halt) → status_of h ≡ status.SinkFault → ⊥
 not_sink_fault halt.NoInput is = omega (arith, ap code_of is)
 not_sink_fault (halt.BadLine line code) is = omega (arith, ap code_of is)
@@ -69,6 +81,10 @@ module _ (ended : Status) (before now : Option (List ℕ)) where
   pub put_not_usage : (h : Halt) → IsPut (status_of h) (halt_lines h) ended before now → ended ≡ status.Usage → ⊥
   put_not_usage h (inl all) is = not_usage h (sym all.0 ∙ is)
   put_not_usage h (inr part) is = not_cut (λ s. s ≡ status.Usage) (λ s. omega (arith, ap code_of s)) (λ s. omega (arith, ap code_of s)) part.0 is
+
+  pub put_not_done : (h : Halt) → IsPut (status_of h) (halt_lines h) ended before now → ended ≡ status.Done → ⊥
+  put_not_done h (inl all) is = not_done h (sym all.0 ∙ is)
+  put_not_done h (inr part) is = not_cut (λ s. s ≡ status.Done) (λ s. omega (arith, ap code_of s)) (λ s. omega (arith, ap code_of s)) part.0 is
 
   pub put_file_fault : (h : Halt) → IsPut (status_of h) (halt_lines h) ended before now → ended ≡ status.FileFault → h ≡ halt.FileFault
   put_file_fault h (inl all) is = is_file_fault h (sym all.0 ∙ is)
@@ -99,9 +115,9 @@ module _ (ended : Status) (before now : Option (List ℕ)) where
     }
 
     -- a run that is done
-    pub done_ends : (lines : List (List ℕ)) → IsOutput (Ok lines) due → IsPut status.Done lines ended before now →
+    pub done_ends : (o : Output) → IsOutput (Ok o) due → IsPut status.Done o.lines ended before now →
         EndsAs due ended tree_before tree_now before now
-    done_ends lines is put =
+    done_ends o is put =
         put_ends (subst IsDue (sym is.0) tt) is.2
         (subst (λ s. IsPut s due.lines ended before now) (sym is.0) (subst (λ (ls : List (List ℕ)). IsPut status.Done ls ended before now) (sym is.1) put))
 
@@ -149,3 +165,47 @@ halted_complete due h ended before now is (inr part) files sink = wants part.0 w
 pub sink_failed : (h : Halt) {Rises : Type 0} → (status_of h ≡ status.SinkFault) ⊎ Rises → Rises
 sink_failed h (inl is) = absurd (not_sink_fault h is)
 sink_failed h (inr rises) = rises
+
+-- ---- a run that is done
+
+done_sink : {Rises : Type 0} → (status.Done ≡ status.SinkFault) ⊎ Rises → Rises
+done_sink (inl is) = absurd (omega (arith, ap code_of is))
+done_sink (inr rises) = rises
+
+pub sink_of_done : {P Rises : Type 0} → (P → (status.Done ≡ status.SinkFault) ⊎ Rises) → P → Rises
+sink_of_done cause p = done_sink (cause p)
+
+module _ (lines : List (List ℕ)) (ended : Status) (before now : Option (List ℕ)) (put : IsPut status.Done lines ended before now) where
+  -- it ends with no other status than these
+  done_not : (s : Status) → (status.Done ≡ s → ⊥) → (status.SinkFault ≡ s → ⊥) → (status.NoMemory ≡ s → ⊥) → ended ≡ s → ⊥
+  done_not s done sink memory is = by_put put
+    where
+      by_put : IsPut status.Done lines ended before now → ⊥
+      by_put (inl all) = done (sym all.0 ∙ is)
+      by_put (inr (inl cut, part)) = sink (sym cut ∙ is)
+      by_put (inr (inr cut, part)) = memory (sym cut ∙ is)
+
+  pub done_not_usage : ended ≡ status.Usage → ⊥
+  done_not_usage = done_not status.Usage (λ e. omega (arith, ap code_of e)) (λ e. omega (arith, ap code_of e)) (λ e. omega (arith, ap code_of e))
+
+  pub done_not_file_fault : ended ≡ status.FileFault → ⊥
+  done_not_file_fault = done_not status.FileFault (λ e. omega (arith, ap code_of e)) (λ e. omega (arith, ap code_of e)) (λ e. omega (arith, ap code_of e))
+
+  pub done_complete : (due : Out) → due.status ≡ status.Done → (ended ≡ status.SinkFault → ⊥) → (ended ≡ due.status) ⊎ (ended ≡ status.NoMemory)
+  done_complete due is sink = by_put put
+    where
+      by_put : IsPut status.Done lines ended before now → (ended ≡ due.status) ⊎ (ended ≡ status.NoMemory)
+      by_put (inl all) = inl (all.0 ∙ sym is)
+      by_put (inr (inl cut, part)) = absurd (sink cut)
+      by_put (inr (inr cut, part)) = inr cut
+
+pub not_memory : status.NoMemory ≡ status.Done → ⊥
+not_memory is = omega (arith, ap code_of is)
+
+-- words that say a task
+abbrev IsTask : Result Task Usage → Type 0
+IsTask (Ok task) = Unit {0}
+IsTask (Err e) = ⊥
+
+pub isnt_no_task : (task : Task) → Ok task ≡ no_task → ⊥
+isnt_no_task task is = subst IsTask is tt

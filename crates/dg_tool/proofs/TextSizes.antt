@@ -1,11 +1,12 @@
 -- How many bytes lines have together.
-use Rattle.std.proofs.Common.{◌≡◌, ℕ, ◌+◌, ◌<◌, ◌≤◌, List, ◌++◌, true, false, take, drop, length, get_or, length-append, sym, ap, ◌∙◌, arith}
+use Rattle.std.proofs.Common.{◌≡◌, ℕ, ◌+◌, ◌<◌, ◌≤◌, Bool, true, false, not, List, [], ◌∷◌, ◌++◌, map, take, drop, get_or, length, length-append, append_assoc, refl, sym, ap, ◌∙◌, arith}
 use Rattle.std.specs.Prelude.{nat_lt}
 use Rattle.std.proofs.lemmas.Bool.Decides.{nat_tests}
-use Rattle.std.proofs.lemmas.List.{take_all}
+use Rattle.std.proofs.lemmas.List.{append-nil, map-append, take-append-drop}
+use Rattle.std.proofs.lemmas.Grind.{take_at_read}
 use Rattle.dg_tool.specs.Text.{max_text, text_of}
 use Rattle.dg_tool.specs.Out.{is_large}
-use Rattle.dg_tool.proofs.Sinks.{text_of-split, text_of-take}
+use Rattle.dg_tool.proofs.Sinks.{text_of-append}
 
 is_above : (n m : ℕ) → n < m → nat_lt n m ≡ true
 is_above n m lt = grind (arith, nat_tests)
@@ -13,26 +14,52 @@ is_above n m lt = grind (arith, nat_tests)
 isnt_above : (n m : ℕ) → m ≤ n → nat_lt n m ≡ false
 isnt_above n m le = grind (arith, nat_tests)
 
-module _ (ls : List (List ℕ)) (i room : ℕ) (so_far : room + length (text_of (take i ls)) ≡ max_text) where
-  -- a line that is longer than what is left
-  pub too_much : (line : List ℕ) → line ≡ get_or ls i line → i < length ls → room < length line → is_large ls ≡ true
-  too_much line is lt more =
-      let front = text_of (take i ls) in
-      let rest = text_of (drop (i + 1) ls) in
-      let all : length (text_of ls) ≡ length front + (length line + length rest) =
-      ap length (text_of-split ls i line is lt) ∙ length-append front (line ++ rest) ∙ ap (λ n. length front + n) (length-append line rest) in
-      is_above max_text (length (text_of ls)) (omega (arith, so_far, all, more))
+above-is : (n m : ℕ) → nat_lt n m ≡ true → n < m
+above-is n m is = grind (arith, nat_tests)
 
-  -- a line more
-  pub still_room : (line : List ℕ) (left : ℕ) → line ≡ get_or ls i line → i < length ls → left + length line ≡ room →
-      left + length (text_of (take (i + 1) ls)) ≡ max_text
-  still_room line left is lt fits =
-      let all : length (text_of (take (i + 1) ls)) ≡ length (text_of (take i ls)) + length line =
-      ap length (text_of-take ls i line is lt) ∙ length-append (text_of (take i ls)) line in
-      omega (arith, so_far, all, fits)
+length-both : (ls ms : List (List ℕ)) → length (text_of (ls ++ ms)) ≡ length (text_of ls) + length (text_of ms)
+length-both ls ms = ap length (text_of-append ls ms) ∙ length-append (text_of ls) (text_of ms)
 
-  -- all lines
-  pub all_fit : length ls ≤ i → is_large ls ≡ false
-  all_fit end =
-      let all : length (text_of ls) ≡ length (text_of (take i ls)) = ap (λ (ms : List (List ℕ)). length (text_of ms)) (sym (take_all i ls end)) in
-      isnt_above max_text (length (text_of ls)) (omega (arith, so_far, all))
+length-behind : (ls : List (List ℕ)) (line : List ℕ) → length (text_of (ls ++ line ∷ [])) ≡ length (text_of ls) + length line
+length-behind ls line = length-both ls (line ∷ []) ∙ ap (λ (t : List ℕ). length (text_of ls) + length t) (append-nil line)
+
+-- lines, and the room that is left behind them
+module _ (ls : List (List ℕ)) (room : ℕ) (so_far : room + length (text_of ls) ≡ max_text) where
+  pub fits : is_large ls ≡ false
+  fits = isnt_above max_text (length (text_of ls)) (omega (arith, so_far))
+
+  -- a line that is longer than that
+  pub too_long : (line : List ℕ) → room < length line → is_large (ls ++ line ∷ []) ≡ true
+  too_long line more =
+      let l = length-behind ls line in
+      is_above max_text (length (text_of (ls ++ line ∷ []))) (omega (arith, so_far, l, more))
+
+  -- a line that isn't
+  pub room-behind : (line : List ℕ) (left : ℕ) → left + length line ≡ room → left + length (text_of (ls ++ line ∷ [])) ≡ max_text
+  room-behind line left is = let l = length-behind ls line in omega (arith, so_far, l, is)
+
+-- more lines have no fewer bytes
+pub larger : (ls ms : List (List ℕ)) → is_large ls ≡ true → is_large (ls ++ ms) ≡ true
+larger ls ms is =
+    let lt = above-is max_text (length (text_of ls)) is in
+    let l = length-both ls ms in
+    is_above max_text (length (text_of (ls ++ ms))) (omega (arith, lt, l))
+
+-- ---- the lines of a list, one after the other
+
+module _ {X : Type 0} (text : X → List ℕ) (xs : List X) where
+  pub next_line : (i : ℕ) (x : X) → x ≡ get_or xs i x → i < length xs → map text (take i xs) ++ text x ∷ [] ≡ map text (take (i + 1) xs)
+  next_line i x is lt =
+      sym (map-append text (take i xs) (x ∷ [])) ∙ ap (map text) (sym ((take_at_read xs i x lt).1 ∙ ap (λ y. take i xs ++ y ∷ []) (sym is)))
+
+  -- where the first lines are too large, so are all
+  pub first_large : (n : ℕ) (more : List (List ℕ)) → is_large (map text (take n xs)) ≡ true → is_large (map text xs ++ more) ≡ true
+  first_large n more large =
+      let whole : map text (take n xs) ++ (map text (drop n xs) ++ more) ≡ map text xs ++ more =
+      sym (append_assoc (map text (take n xs)) (map text (drop n xs)) more)
+      ∙ ap (λ (ls : List (List ℕ)). ls ++ more) (sym (map-append text (take n xs) (drop n xs)) ∙ ap (map text) (take-append-drop n xs)) in
+      ap is_large (sym whole) ∙ larger (map text (take n xs)) (map text (drop n xs) ++ more) large
+
+pub isnt-not : (b : Bool) → false ≡ not b → b ≡ true
+isnt-not true is = refl
+isnt-not false is = is

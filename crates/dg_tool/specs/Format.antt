@@ -1,5 +1,5 @@
 -- The canonical text of a game object or a collection.
-use Rattle.std.specs.Prelude.{ℕ, List, [], ◌∷◌, ◌++◌, Bool, cond, nat_eq, nat_lt, Result, Ok, Err, length}
+use Rattle.std.specs.Prelude.{ℕ, List, [], ◌∷◌, ◌++◌, Bool, cond, nat_eq, nat_lt, Result, Ok, Err, codes, length}
 use Rattle.dg_base.specs.Refusal.{and_then}
 use Rattle.dg_text.specs.Paths.{ends_in}
 use Rattle.dg_files.specs.Tree.{Tree}
@@ -17,7 +17,6 @@ use Rattle.dg_tool.specs.declared.halt.Halt.TheVariants as halt
 use Rattle.dg_tool.specs.declared.halt.Limit.TheVariants as limit
 use Rattle.dg_tool.specs.declared.halt.FileCode.TheVariants as file
 use Rattle.dg_tool.specs.Text.{max_text}
-use Rattle.dg_tool.specs.Words.{game_object}
 use Rattle.dg_tool.specs.Input.{bytes_of}
 
 -- a text that is no protobuf text, and a tree that is no such file
@@ -46,6 +45,9 @@ abbrev pub canonical : Bool → List Field → Result (List Field) Halt
 canonical is_go tree = cond is_go (canonical_go tree) (canonical_coll tree)
 
 -- its text, by the ending of its path
+abbrev pub game_object : List ℕ
+game_object = codes ".go"
+
 abbrev pub formatted : List ℕ → List ℕ → Result (List ℕ) Halt
 formatted path bytes =
     and_then (or_halt text_halt (reading bytes)) (λ tree. and_then (canonical (ends_in path game_object) tree) (λ c. Ok (printed [] c)))

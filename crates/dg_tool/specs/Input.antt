@@ -68,3 +68,14 @@ begin_with a = record { editor = begun a; pins = []; bound = []; names = [] }
 
 abbrev pub loaded : Tree → Result State Halt
 loaded tree = Ok (begin_with nothing_loaded)
+
+-- what a run starts with: the commands, the state before the first, and for how many entries the shared cache has
+-- room
+pub record Start : Type 0 where
+  pub commands : List Command
+  pub begin : State
+  pub capacity : ℕ
+
+abbrev pub start_of : Tree → List ℕ → ℕ → Result Start Halt
+start_of tree script capacity =
+    and_then (script_of tree script) (λ commands. and_then (loaded tree) (λ state. Ok (record { commands = commands; begin = state; capacity = capacity })))

@@ -1,7 +1,6 @@
 -- In reading order: each module uses only the ones before it.
 pub mod Text
 pub mod Halts
-pub mod Words
 pub mod Built
 pub mod Input
 pub mod Format

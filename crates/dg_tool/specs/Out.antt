@@ -1,6 +1,6 @@
--- What the tool does for a tree of files and the words of its command line. It has no cache and no
--- worker.
-use Rattle.std.specs.Prelude.{ℕ, List, [], ◌∷◌, Bool, cond, nat_lt, Option, Some, None, Result, Ok, Err, codes, length, map, flat_map, fold}
+-- What the tool does for a tree of files and the words of its command line. What it prints of answers and edits has
+-- no cache and no worker; of the cache it tells the work alone, where the words ask for it.
+use Rattle.std.specs.Prelude.{ℕ, List, [], ◌∷◌, ◌++◌, Bool, cond, nat_lt, true, false, Result, Ok, Err, codes, length, map, fold}
 use Rattle.dg_base.specs.Tables.{Tables}
 use Rattle.dg_base.specs.Graph.{Graph, empty}
 use Rattle.dg_base.specs.Refusal.{and_then}
@@ -12,16 +12,19 @@ use Rattle.dg_tool.specs.declared.status.Status.TheVariants as status
 use Rattle.dg_tool.specs.declared.halt.Halt.{Halt}
 use Rattle.dg_tool.specs.declared.halt.Halt.TheVariants as halt
 use Rattle.dg_tool.specs.declared.halt.Limit.TheVariants as limit
-use Rattle.dg_tool.specs.declared.words.Task.{Task}
-use Rattle.dg_tool.specs.declared.words.Task.TheVariants.{Run, Format}
-use Rattle.dg_tool.specs.Text.{ok_text, empty_text, no_name_text, no_label_text, missing_text, code_text, refused_text, line_full_text, nothing_to_undo_text, nothing_to_redo_text, pin_used_text, pins_full_text, pinned_text, no_pin_text, not_built_text, max_text, line_of, text_of}
+use Rattle.dg_words.specs.declared.task.Task.{Task}
+use Rattle.dg_words.specs.declared.task.Task.TheVariants.{Run, Check, Build, Gen, Format}
+use Rattle.dg_words.specs.declared.task.Usage.{Usage}
+use Rattle.dg_words.specs.Tasks.{task_in}
+use Rattle.dg_tool.specs.Text.{ok_text, empty_text, no_name_text, no_label_text, missing_text, code_text, refused_text, line_full_text, nothing_to_undo_text, nothing_to_redo_text, pin_used_text, pins_full_text, pinned_text, no_pin_text, not_built_text, stats_text, max_text, line_of, text_of}
 use Rattle.dg_tool.specs.Halts.{status_of, halt_lines, error_line}
-use Rattle.dg_tool.specs.Words.{task_of}
 use Rattle.dg_line.specs.Revisions.{Seen}
 use Rattle.dg_editor.specs.Machine.{revisions}
 use Rattle.dg_play.specs.Asks.{Ask}
 use Rattle.dg_play.specs.Play.{Reply, Done, Empty, LineFull, NothingToUndo, NothingToRedo, NoName, NoLabel, Misses, Refused, PinUsed, PinsFull, PinnedAt, NoPin, NotBuilt, Answers, Line, Played, graph_now, played}
-use Rattle.dg_tool.specs.Input.{script_of, loaded}
+use Rattle.dg_play.specs.Work.{Work, work_of}
+use Rattle.dg_play.specs.Desk.{answers_in}
+use Rattle.dg_tool.specs.Input.{Start, start_of}
 use Rattle.dg_tool.specs.Format.{formatted_in}
 
 -- all that a run does: its status, the lines that it prints, the files that it writes, each with the
@@ -71,10 +74,10 @@ reply_text t names (Answers a) = ask_text t names a
 abbrev pub line_text : Tables → List (List ℕ) → Line → List ℕ
 line_text t names line = line_of line.number (reply_text t names line.reply)
 
--- the answer that a reply has
-abbrev pub asks_in : Reply → List Ask
-asks_in (Answers a) = a ∷ []
-asks_in _ = []
+-- the last line, where the words ask for it: the work that was done
+abbrev pub stats_lines : Bool → Work → List (List ℕ)
+stats_lines false w = []
+stats_lines true w = (stats_text w.made w.kept w.late ++ 10 ∷ []) ∷ []
 
 abbrev pub is_large : List (List ℕ) → Bool
 is_large lines = nat_lt max_text (length (text_of lines))
@@ -86,7 +89,7 @@ done p lines = record {
   files = [];
   last = graph_now p.state;
   revisions = revisions p.state.editor;
-  asks = flat_map (λ line. asks_in line.reply) p.lines;
+  asks = answers_in p.lines;
 }
 
 abbrev pub out_of_lines : Played → List (List ℕ) → Out
@@ -94,15 +97,18 @@ out_of_lines p lines = cond (is_large lines) (halted (halt.TooLarge limit.Text))
 
 -- a script that was played. Its lines are printed with the names of the end: a label's name, once given,
 -- never changes, and what is in a graph was named before
-abbrev pub out_of_played : Tables → Played → Out
-out_of_played t p = out_of_lines p (map (line_text t p.state.names) p.lines)
+abbrev pub out_of_played : Tables → Bool → Played → Work → Out
+out_of_played t stats p w = out_of_lines p (map (line_text t p.state.names) p.lines ++ stats_lines stats w)
 
-abbrev pub played_in : Tables → Tree → List ℕ → Result Played Halt
-played_in t tree script = and_then (script_of tree script) (λ commands. and_then (loaded tree) (λ state. Ok (played t commands state)))
+abbrev pub played_from : Tables → Start → Played
+played_from t s = played t s.commands s.begin
 
-abbrev pub out_of_result : Tables → Result Played Halt → Out
-out_of_result t (Ok p) = out_of_played t p
-out_of_result t (Err h) = halted h
+abbrev pub work_from : Tables → Start → Work
+work_from t s = work_of t s.capacity s.commands s.begin
+
+abbrev pub out_of_start : Tables → Bool → Result Start Halt → Out
+out_of_start t stats (Ok s) = out_of_played t stats (played_from t s) (work_from t s)
+out_of_start t stats (Err h) = halted h
 
 -- a file that is formatted: its text, and nothing else is done
 abbrev pub printed_alone : List (List ℕ) → Out
@@ -112,13 +118,21 @@ abbrev pub out_of_text : Result (List (List ℕ)) Halt → Out
 out_of_text (Ok lines) = printed_alone lines
 out_of_text (Err h) = halted h
 
-abbrev pub out_of_task : Tables → Tree → Option Task → Out
-out_of_task t tree None = usage
-out_of_task t tree (Some (Run script)) = out_of_result t (played_in t tree script)
-out_of_task t tree (Some (Format path)) = out_of_text (formatted_in tree path)
+-- a script is played without workers, whatever their number. The project isn't loaded yet, so nothing of it is checked
+-- or built, and none is made
+abbrev pub out_of_task : Tables → Tree → Task → Out
+out_of_task t tree (Run script workers cache stats) = out_of_start t stats (start_of tree script cache)
+out_of_task t tree (Format path) = out_of_text (formatted_in tree path)
+out_of_task t tree Check = halted halt.NotBuilt
+out_of_task t tree (Build path workers) = halted halt.NotBuilt
+out_of_task t tree (Gen seed size workers cache) = halted halt.NotBuilt
+
+abbrev pub out_of_words : Tables → Tree → Result Task Usage → Out
+out_of_words t tree (Ok task) = out_of_task t tree task
+out_of_words t tree (Err e) = usage
 
 abbrev pub out_of : Tables → Tree → List (List ℕ) → Out
-out_of t tree words = out_of_task t tree (task_of words)
+out_of t tree words = out_of_words t tree (task_in words)
 
 -- the tree after all files of a run were written, in order
 abbrev pub all_written : List Written → Tree → Tree

@@ -1,5 +1,5 @@
 -- What a run leaves, against what is due: the output of the definitions for the words and the tree.
-use Rattle.std.specs.Prelude.{◌≡◌, ◌≤◌, ◌⊎◌, ℕ, List, [], Option, Result, Ok, Err}
+use Rattle.std.specs.Prelude.{◌≡◌, ◌≤◌, ◌⊎◌, ℕ, List, [], Option, Some, None, Result, Ok, Err}
 use Rattle.std.specs.Option.{option_map}
 use Rattle.dg_files.specs.Outcome.{Rose}
 use Rattle.dg_files.specs.Tree.{Tree}
@@ -10,7 +10,16 @@ use Rattle.dg_base.specs.declared.refusal.Refusal.TheVariants as refusal
 use Rattle.dg_tool.specs.declared.halt.Halt.{Halt}
 use Rattle.dg_tool.specs.declared.halt.Halt.TheVariants as halt
 use Rattle.dg_tool.specs.Text.{text_of}
-use Rattle.dg_tool.specs.Out.{Out, all_written, halted}
+use Rattle.dg_base.specs.Tables.{Tables}
+use Rattle.dg_words.specs.declared.task.Task.{Task}
+use Rattle.dg_words.specs.declared.task.Task.TheVariants.{Run}
+use Rattle.dg_words.specs.declared.task.Usage.{Usage}
+use Rattle.dg_line.specs.Revisions.{Seen}
+use Rattle.dg_desk.specs.Desks.{Desked}
+use Rattle.dg_play.specs.Desk.{IsDeskOf}
+use Rattle.dg_tool.specs.declared.output.Output.{Output}
+use Rattle.dg_tool.specs.Input.{Start, start_of}
+use Rattle.dg_tool.specs.Out.{Out, all_written, halted, work_from}
 use Rattle.dg_tool.specs.Printed.{GotAll, GotPrefix}
 
 -- the statuses that a call of the outside, or want of memory, may end a run with; each other one is due
@@ -44,9 +53,40 @@ abbrev pub IsComplete : Out → Status → ℕ → ℕ → ℕ → ℕ → Type 
 IsComplete due ended files_before files_now out_before out_now =
     ¬ Rose files_before files_now → ¬ Rose out_before out_now → (ended ≡ due.status) ⊎ (ended ≡ status.NoMemory)
 
+-- ---- the desk and the work of a run that is done
+
+-- of a script that was played: the desk is there, and is what the play leaves
+abbrev pub IsDeskOfStart : {M : Type 0} → Tables → Result Start Halt → Option (Desked Seen M) → Type 0
+IsDeskOfStart t (Ok s) (Some desk) = IsDeskOf t s.capacity s.commands s.begin desk
+IsDeskOfStart t _ _ = ⊥
+
+-- a task that plays nothing has none
+abbrev pub IsDeskOfTask : {M : Type 0} → Tables → Tree → Task → Option (Desked Seen M) → Type 0
+IsDeskOfTask t tree (Run script workers cache stats) desk = IsDeskOfStart t (start_of tree script cache) desk
+IsDeskOfTask t tree _ desk = desk ≡ None
+
+abbrev pub IsDeskOfWords : {M : Type 0} → Tables → Tree → Result Task Usage → Option (Desked Seen M) → Type 0
+IsDeskOfWords t tree (Ok task) desk = IsDeskOfTask t tree task desk
+IsDeskOfWords t tree (Err e) desk = desk ≡ None
+
+-- how many productions a task makes
+abbrev pub made_by_start : Tables → Result Start Halt → ℕ
+made_by_start t (Ok s) = (work_from t s).made
+made_by_start t (Err h) = 0
+
+abbrev pub made_by_task : Tables → Tree → Task → ℕ
+made_by_task t tree (Run script workers cache stats) = made_by_start t (start_of tree script cache)
+made_by_task t tree _ = 0
+
+abbrev pub made_by_words : Tables → Tree → Result Task Usage → ℕ
+made_by_words t tree (Ok task) = made_by_task t tree task
+made_by_words t tree (Err e) = 0
+
+-- ---- the parts of a run
+
 -- what is known before the first put: the lines of a run that is done, or what ends it before
-abbrev pub IsOutput : Result (List (List ℕ)) (Refusal Halt) → Out → Type 0
-IsOutput (Ok lines) due = (due.status ≡ status.Done) × (due.lines ≡ lines) × (due.files ≡ [])
+abbrev pub IsOutput : Result Output (Refusal Halt) → Out → Type 0
+IsOutput (Ok o) due = (due.status ≡ status.Done) × (due.lines ≡ o.lines) × (due.files ≡ [])
 IsOutput (Err (refusal.Because halt.FileFault)) due = Unit {0}
 IsOutput (Err (refusal.Because h)) due = due ≡ halted h
 IsOutput (Err refusal.NoMemory) due = Unit {0}

@@ -44,6 +44,10 @@ pinned_text number = codes "pinned " ++ decimal number
 abbrev pub no_pin_text : List ℕ
 no_pin_text = codes "NoPin"
 
+-- the work of a script: productions, entries that were kept, and entries that came late
+abbrev pub stats_text : ℕ → ℕ → ℕ → List ℕ
+stats_text made kept late = codes "work " ++ decimal made ++ codes " kept " ++ decimal kept ++ codes " late " ++ decimal late
+
 -- a command that isn't played yet
 abbrev pub not_built_text : List ℕ
 not_built_text = codes "not built"

@@ -1,7 +1,7 @@
 -- Scripts of which the checker computes what they print.
 use Rattle.std.specs.Prelude.{◌≡◌, ℕ, List, ◌∷◌, [], ◌++◌, codes}
 use Rattle.dg_files.specs.Tree.{Tree}
-use Rattle.dg_kinds_go.specs.Go.{go_tables}
+use Rattle.dg_kinds_coll.specs.Defold.{defold_tables}
 use Rattle.dg_tool.specs.declared.status.Status.TheVariants as status
 use Rattle.dg_tool.specs.Out.{Out, out_of}
 
@@ -13,7 +13,7 @@ abbrev pub run_words : List (List ℕ)
 run_words = codes "run" ∷ codes "/e.txt" ∷ codes "--workers" ∷ codes "0" ∷ []
 
 abbrev pub out_of_bytes : List ℕ → Out
-out_of_bytes script = out_of go_tables (tree_with script) run_words
+out_of_bytes script = out_of defold_tables (tree_with script) run_words
 
 -- it is played to its end and prints these lines
 abbrev pub prints : List ℕ → List (List ℕ) → Type 0
@@ -60,9 +60,9 @@ deleted_lines =
     line (codes "1: ok") ∷ line (codes "2: ok") ∷ line (codes "3: ok") ∷ line (codes "4: ok") ∷ line (codes "5: ok")
     ∷ line (codes "6: fault 2.id NoEndpoint") ∷ []
 
--- a kind that isn't made yet
+-- a command that isn't played yet
 abbrev pub unplayed : List ℕ
-unplayed = line (codes "ask now a.value") ++ codes "make Collection c"
+unplayed = line (codes "ask now a.value") ++ codes "build a"
 
 -- a block that isn't closed
 abbrev pub unclosed : List ℕ

@@ -9,7 +9,6 @@ use crate::halt::{FileCode, Halt, Limit};
 use crate::input::bytes_of;
 use crate::size::MAX_TEXT;
 use crate::text::Lines;
-use crate::words::GAME_OBJECT;
 use dg_base::Refusal;
 use dg_desc::{DescCode, coll_tree, go_tree, read_coll, read_go};
 use dg_files::{Bytes, Files};
@@ -17,6 +16,9 @@ use dg_ptext::{TextCode, Tree, print_tree, read_tree};
 use dg_text::ends_in;
 use std::alloc::{AllocError, Global};
 use std::mem;
+
+/// The ending of a game object's path.
+const GAME_OBJECT: &str = ".go";
 
 /// The lines of the canonical text of the file at a path. The files are read and nothing else.
 pub(crate) fn formatted_in<F: Files>(

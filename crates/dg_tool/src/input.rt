@@ -3,16 +3,15 @@ ghost use Rattle.std.specs.Prelude.{◌≡◌, ◌≤◌, IfOk, IfSome, IsErrOf}
 ghost use Rattle.dg_base.specs.Refusal.{Gives};
 ghost use Rattle.dg_files.specs.Outcome.{Rose, StaysSound};
 ghost use Rattle.dg_tool.specs.Input.{Tells, begin_with, built, bytes_of, commands_in, nothing_loaded, script_of};
+ghost use Rattle.dg_play.specs.Desk.{IsBegun};
 ghost use Rattle.dg_play.specs.Seen.{state_of};
+ghost use Rattle.dg_play.specs.States.{IsPlayed};
 
 use crate::built::are_built;
 use crate::halt::{Halt, Limit};
 use crate::size::{MAX_LINES, MAX_SCRIPT, line_count};
-use dg_base::{Names, Refusal};
-use dg_bind::Bindings;
-use dg_editor::Editor;
+use dg_base::Refusal;
 use dg_files::{Bytes, Files, Got};
-use dg_line::OwnLine;
 use dg_play::State;
 use dg_script::{Script, read_script};
 use std::alloc::{AllocError, Global};
@@ -84,19 +83,17 @@ fn built(commands: Script) -> Result<Script, Refusal<Halt>>
     }
 }
 
-/// The state that a script begins with. Nothing of the project is loaded yet.
-pub(crate) fn loaded(alloc: Global) -> Result<State, AllocError>
-    ensures { IfOk result (λ s. state_of s ≡ begin_with nothing_loaded) }
+/// The state that a script begins with, with a cache for so many entries. Nothing of the project is loaded yet.
+pub(crate) fn loaded(alloc: Global, capacity: u32) -> Result<State, AllocError>
+    requires { 1 ≤ capacity }
+    ensures state { IfOk result (λ s. state_of s ≡ begin_with nothing_loaded) }
+    ensures begun { IfOk result (λ s. IsBegun s.world) }
+    ensures capacity { IfOk result (λ s. s.world.desk.capacity ≡ capacity) }
+    ensures played { IfOk result (λ s. IsPlayed s) }
 {
-    let (editor, _made) = match Editor::open(alloc, OwnLine::new(alloc), &[]) {
-        Ok(opened) => opened,
+    match State::open(alloc, &[], capacity) {
+        Ok((state, _made)) => Ok(state),
         Err(Refusal::Because(_)) => unreachable!(),
-        Err(Refusal::NoMemory) => return Err(AllocError),
-    };
-    Ok(State {
-        editor,
-        pins: Vec::new(alloc),
-        bound: Bindings::new(alloc),
-        names: Names::new(alloc),
-    })
+        Err(Refusal::NoMemory) => Err(AllocError),
+    }
 }

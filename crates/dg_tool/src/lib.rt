@@ -4,19 +4,22 @@
 //! with the status that it answers. What a run does is one record, `specs/Out`, over the play of scripts;
 //! `specs/Statement` says what a run leaves.
 //!
-//! In reading order: `status` how a run ends and `halt` what ends it before a line is put; `words` reads
-//! the command line; `size` counts a script's lines, `built` tells what is played yet, and `input` reads
-//! the script; `format` formats a file; `text` has the printed texts, `lines` is the last pass, which prints all lines;
-//! `output` is all that is known before the first put, `printing` puts lines, and `run` is the top call.
+//! In reading order: `status` how a run ends and `halt` what ends it before a line is put; `size` counts a script's
+//! lines, `built` tells what is played yet, and `input` reads the script; `format` formats a file; `text` has the
+//! printed texts, `page` the lines that fit, and `lines` is the last pass, which prints all lines; `output` is all that
+//! is known before the first put, `printing` puts lines, and `run` is the top call.
 //! [`worked`] states cases that the checker computes.
 #![tactic(auto)]
 
 mod built;
+#[cfg(test)]
+mod cases;
 mod format;
 mod halt;
 mod input;
 mod lines;
 mod output;
+mod page;
 mod printing;
 mod run;
 mod size;
@@ -24,7 +27,6 @@ mod status;
 #[cfg(test)]
 mod tests;
 mod text;
-mod words;
 pub mod worked;
 
 pub use run::{Ended, run_alone};

@@ -1,27 +1,32 @@
 //! The top call.
-ghost use Rattle.std.specs.Prelude.{◌≡◌, ◌≤◌, ◌⊎◌, map, string_bytes, IfOk, IfSome, None};
+ghost use Rattle.std.specs.Prelude.{◌≡◌, ◌≤◌, ◌⊎◌, ◌+◌, map, string_bytes, IfOk, IfSome, None};
 ghost use Rattle.dg_files.specs.Outcome.{Rose, StaysSound};
-ghost use Rattle.dg_kinds_go.specs.Go.{go_tables};
+ghost use Rattle.dg_kinds_coll.specs.Defold.{defold_tables};
 ghost use Rattle.dg_tool.specs.Halts.{status_of, halt_lines};
-ghost use Rattle.dg_tool.specs.Out.{out_of, usage};
-ghost use Rattle.dg_tool.specs.Statement.{EndsAs, HasCauses, IsComplete, IsPut};
-ghost use Rattle.dg_tool.specs.Words.{task_of};
+ghost use Rattle.dg_tool.specs.Out.{out_of, out_of_task, usage};
+ghost use Rattle.dg_tool.specs.Statement.{EndsAs, HasCauses, IsComplete, IsDeskOfTask, IsDeskOfWords, IsPut, made_by_task, made_by_words};
+ghost use Rattle.dg_words.specs.Paths.{usage as no_task};
+ghost use Rattle.dg_words.specs.Ranges.{IsInRange};
+ghost use Rattle.dg_words.specs.Tasks.{task_in};
 
 use crate::halt::Halt;
-use crate::output::lines_of;
+use crate::output::{Output, output_of};
 use crate::printing::put_lines;
 use crate::status::Status;
 use crate::text::{self, Lines};
-use crate::words::task_of;
 use dg_base::{Refusal, Steps};
 use dg_files::{Files, Sink};
+use dg_play::ScriptDesk;
+use dg_words::laws::numbers_are_in_range;
+use dg_words::{Task, read_words};
 use std::alloc::{AllocError, Global};
 use std::sync::ledger::Ledger;
 
-/// How a run ended.
-#[derive(Debug, Drop)]
+/// How a run ended, and the cache of a script that was played to its end, with the records of all that was done with it.
+#[derive(Drop)]
 pub struct Ended {
     pub status: Status,
+    pub desk: Option<ScriptDesk>,
 }
 
 /// Does what the words of a command line say, on this thread alone: reads the script, plays it, and
@@ -29,6 +34,11 @@ pub struct Ended {
 ///
 /// A count of failures that stands at its greatest, 2^64 - 1, can't rise, so there a failure can't be
 /// told from none; below it, `complete` says that nothing is hidden.
+///
+/// A script that is played to its end leaves the desk that `desk` speaks of: its cache is coherent, its records tell
+/// each follow, publication and eviction, and what an evaluation found there was published before at a revision
+/// with the same counter. `work` counts the productions: as many as playing the commands over a cache of this
+/// size needs, and no more.
 ///
 /// In time linear in the script and the output and, for each transaction and each endpoint that an `ask`
 /// evaluates, in the graph so far.
@@ -40,50 +50,109 @@ pub fn run_alone<F: Files, S: Sink, L: Ledger>(
     steps: &mut Steps<L>,
 ) -> Ended
     ensures ends { IfSome (F.tree files.old)
-        (λ t. EndsAs (out_of go_tables t (map string_bytes words.now)) result.status (F.tree files.old) (F.tree files.new) (S.bytes out.old) (S.bytes out.new)) }
+        (λ t. EndsAs (out_of defold_tables t (map string_bytes words.now)) result.status (F.tree files.old) (F.tree files.new) (S.bytes out.old) (S.bytes out.new)) }
     ensures causes { HasCauses result.status (F.faults files.old) (F.faults files.new) (S.faults out.old) (S.faults out.new) }
     ensures complete { IfSome (F.tree files.old)
-        (λ t. IsComplete (out_of go_tables t (map string_bytes words.now)) result.status
+        (λ t. IsComplete (out_of defold_tables t (map string_bytes words.now)) result.status
         (F.faults files.old) (F.faults files.new) (S.faults out.old) (S.faults out.new)) }
+
+    // At the end of a task that is done: the desk of a script that was played, and how many productions were made.
+    ensures desk { result.status ≡ Status.Done →
+        IfSome (F.tree files.old) (λ t. IsDeskOfWords defold_tables t (task_in (map string_bytes words.now)) result.desk) }
+    ensures work { result.status ≡ Status.Done →
+        IfSome (F.tree files.old) (λ t. steps.new ≡ steps.old + made_by_words defold_tables t (task_in (map string_bytes words.now))) }
+    ensures no_desk { ¬ (result.status ≡ Status.Done) → result.desk ≡ None }
 
     // Over any files, also those that tell nothing: the words alone decide on the status of usage, before
     // a file is read, and where a call of the files failed nothing was printed. What never fails goes on so.
-    ensures usage { task_of (map string_bytes words.now) ≡ None →
+    ensures usage { task_in (map string_bytes words.now) ≡ no_task →
         EndsAs usage result.status (F.tree files.old) (F.tree files.new) (S.bytes out.old) (S.bytes out.new) }
-    ensures usage_alone { result.status ≡ Status.Usage → task_of (map string_bytes words.now) ≡ None }
-    ensures untouched { task_of (map string_bytes words.now) ≡ None → files.new ≡ files.old }
+    ensures usage_alone { result.status ≡ Status.Usage → task_in (map string_bytes words.now) ≡ no_task }
+    ensures untouched { task_in (map string_bytes words.now) ≡ no_task → files.new ≡ files.old }
     ensures tree { F.tree files.new ≡ F.tree files.old }
     ensures files_failed { result.status ≡ Status.FileFault → S.bytes out.new ≡ S.bytes out.old }
     ensures files_sound { StaysSound F.is_sound F.faults files.old files.new }
     ensures out_sound { StaysSound S.is_sound S.faults out.old out.new }
 {
-    let task = match task_of(alloc, words) {
-        Ok(Some(task)) => task,
-        Ok(None) => return put_usage(alloc, out),
-        Err(_) => return Ended {
-            status: Status::NoMemory,
+    numbers_are_in_range();
+    match read_words(alloc, words) {
+        Ok(task) => run_task(alloc, task, files, out, steps),
+        Err(Refusal::Because(_)) => Ended {
+            status: put_usage(alloc, out),
+            desk: None,
         },
-    };
-    match lines_of(alloc, task, files, steps) {
-        Ok(lines) => put(out, Status::Done, &lines),
-        Err(Refusal::Because(halt)) => put_halt(alloc, out, halt),
         Err(Refusal::NoMemory) => Ended {
             status: Status::NoMemory,
+            desk: None,
         },
     }
 }
 
-fn put_usage<S: Sink>(alloc: Global, out: &mut S) -> Ended
-    ensures put { IsPut Status.Usage usage.lines result.status (S.bytes out.old) (S.bytes out.new) }
-    ensures cause { result.status ≡ Status.SinkFault → (Status.Usage ≡ Status.SinkFault) ⊎ Rose (S.faults out.old) (S.faults out.new) }
+// Does a task.
+fn run_task<F: Files, S: Sink, L: Ledger>(
+    alloc: Global,
+    task: Task,
+    files: &mut F,
+    out: &mut S,
+    steps: &mut Steps<L>,
+) -> Ended
+    requires { IsInRange task }
+    ensures ends { IfSome (F.tree files.old)
+        (λ t. EndsAs (out_of_task defold_tables t task) result.status (F.tree files.old) (F.tree files.new) (S.bytes out.old) (S.bytes out.new)) }
+    ensures causes { HasCauses result.status (F.faults files.old) (F.faults files.new) (S.faults out.old) (S.faults out.new) }
+    ensures complete { IfSome (F.tree files.old)
+        (λ t. IsComplete (out_of_task defold_tables t task) result.status (F.faults files.old) (F.faults files.new) (S.faults out.old) (S.faults out.new)) }
+    ensures desk { result.status ≡ Status.Done → IfSome (F.tree files.old) (λ t. IsDeskOfTask defold_tables t task result.desk) }
+    ensures work { result.status ≡ Status.Done → IfSome (F.tree files.old) (λ t. steps.new ≡ steps.old + made_by_task defold_tables t task) }
+    ensures no_desk { ¬ (result.status ≡ Status.Done) → result.desk ≡ None }
+    ensures not_usage { ¬ (result.status ≡ Status.Usage) }
+    ensures tree { F.tree files.new ≡ F.tree files.old }
+    ensures files_failed { result.status ≡ Status.FileFault → S.bytes out.new ≡ S.bytes out.old }
+    ensures files_sound { StaysSound F.is_sound F.faults files.old files.new }
+    ensures out_sound { StaysSound S.is_sound S.faults out.old out.new }
+{
+    match output_of(alloc, task, files, steps) {
+        Ok(output) => put_output(out, output),
+        Err(Refusal::Because(halt)) => Ended {
+            status: put_halt(alloc, out, halt),
+            desk: None,
+        },
+        Err(Refusal::NoMemory) => Ended {
+            status: Status::NoMemory,
+            desk: None,
+        },
+    }
+}
+
+// Puts all lines of a run that is done. Its desk is kept where all of them were put.
+fn put_output<S: Sink>(out: &mut S, output: Output) -> Ended
+    ensures put { IsPut Status.Done output.lines result.status (S.bytes out.old) (S.bytes out.new) }
+    ensures done { result.status ≡ Status.Done → result.desk ≡ output.desk }
+    ensures cut_off { ¬ (result.status ≡ Status.Done) → result.desk ≡ None }
+    ensures cause { result.status ≡ Status.SinkFault → (Status.Done ≡ Status.SinkFault) ⊎ Rose (S.faults out.old) (S.faults out.new) }
+    ensures never_falls { S.faults out.old ≤ S.faults out.new }
+    ensures sound { StaysSound S.is_sound S.faults out.old out.new }
+{
+    let status = put(out, Status::Done, &output.lines);
+    if status == Status::Done {
+        Ended {
+            status,
+            desk: output.desk,
+        }
+    } else {
+        Ended { status, desk: None }
+    }
+}
+
+fn put_usage<S: Sink>(alloc: Global, out: &mut S) -> Status
+    ensures put { IsPut Status.Usage usage.lines result (S.bytes out.old) (S.bytes out.new) }
+    ensures cause { result ≡ Status.SinkFault → (Status.Usage ≡ Status.SinkFault) ⊎ Rose (S.faults out.old) (S.faults out.new) }
     ensures never_falls { S.faults out.old ≤ S.faults out.new }
     ensures sound { StaysSound S.is_sound S.faults out.old out.new }
 {
     match usage_lines(alloc) {
         Ok(lines) => put(out, Status::Usage, &lines),
-        Err(_) => Ended {
-            status: Status::NoMemory,
-        },
+        Err(_) => Status::NoMemory,
     }
 }
 
@@ -96,34 +165,28 @@ fn usage_lines(alloc: Global) -> Result<Lines, AllocError>
 }
 
 // The one line of what ended the run; none where a call of the files failed.
-fn put_halt<S: Sink>(alloc: Global, out: &mut S, halt: Halt) -> Ended
-    ensures put { IsPut (status_of halt) (halt_lines halt) result.status (S.bytes out.old) (S.bytes out.new) }
-    ensures cause { result.status ≡ Status.SinkFault → (status_of halt ≡ Status.SinkFault) ⊎ Rose (S.faults out.old) (S.faults out.new) }
+fn put_halt<S: Sink>(alloc: Global, out: &mut S, halt: Halt) -> Status
+    ensures put { IsPut (status_of halt) (halt_lines halt) result (S.bytes out.old) (S.bytes out.new) }
+    ensures cause { result ≡ Status.SinkFault → (status_of halt ≡ Status.SinkFault) ⊎ Rose (S.faults out.old) (S.faults out.new) }
     ensures never_falls { S.faults out.old ≤ S.faults out.new }
     ensures sound { StaysSound S.is_sound S.faults out.old out.new }
 {
     match halt.lines(alloc) {
         Ok(lines) => put(out, halt.status(), &lines),
-        Err(_) => Ended {
-            status: Status::NoMemory,
-        },
+        Err(_) => Status::NoMemory,
     }
 }
 
 // Puts all lines, after which the run ends with this status.
-fn put<S: Sink>(out: &mut S, status: Status, lines: &Lines) -> Ended
-    ensures put { IsPut status lines.now result.status (S.bytes out.old) (S.bytes out.new) }
-    ensures cause { result.status ≡ Status.SinkFault → (status ≡ Status.SinkFault) ⊎ Rose (S.faults out.old) (S.faults out.new) }
+fn put<S: Sink>(out: &mut S, status: Status, lines: &Lines) -> Status
+    ensures put { IsPut status lines.now result (S.bytes out.old) (S.bytes out.new) }
+    ensures cause { result ≡ Status.SinkFault → (status ≡ Status.SinkFault) ⊎ Rose (S.faults out.old) (S.faults out.new) }
     ensures never_falls { S.faults out.old ≤ S.faults out.new }
     ensures sound { StaysSound S.is_sound S.faults out.old out.new }
 {
     match put_lines(out, lines.as_slice()) {
-        Ok(()) => Ended { status },
-        Err(Refusal::Because(_)) => Ended {
-            status: Status::SinkFault,
-        },
-        Err(Refusal::NoMemory) => Ended {
-            status: Status::NoMemory,
-        },
+        Ok(()) => status,
+        Err(Refusal::Because(_)) => Status::SinkFault,
+        Err(Refusal::NoMemory) => Status::NoMemory,
     }
 }

@@ -1,8 +1,6 @@
 //! The size of a script, and of what it prints.
-ghost use Rattle.std.specs.Prelude.{◌≡◌, ◌≤◌, ◌<◌, ◌+◌, length, count_by, MatchOption};
+ghost use Rattle.std.specs.Prelude.{◌≡◌, length, count_by};
 ghost use Rattle.dg_script.specs.Script.{is_line_feed, lines_in};
-
-use dg_files::Bytes;
 
 /// The most bytes of a script, and the most lines.
 pub const MAX_SCRIPT: usize = 1048576;
@@ -26,11 +24,4 @@ fn line_feeds(bytes: &[u8]) -> usize
     ensures { result ≡ count_by is_line_feed bytes.now }
 {
     bytes.iter().filter(|b| **b == b'\n').count()
-}
-
-/// What is left of the room behind a line, where the line fits.
-pub(crate) fn room_after(room: usize, line: &Bytes) -> Option<usize>
-    ensures { MatchOption result (room < length line.now) (λ left. left + length line.now ≡ room) }
-{
-    room.checked_sub(line.len())
 }

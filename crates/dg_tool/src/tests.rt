@@ -1,6 +1,10 @@
 ghost use Rattle.std.specs.Prelude.{◌≡◌, ◌<◌};
 
-use crate::run_alone;
+use crate::cases::{
+    EDITED, FIRST, FIRST_LINES, FORMATTED, GRAPHS, NAMES, OVERRIDES, REFUSED, SPELLED, TEN,
+    WORDS_ENDED, WORKED, Worked,
+};
+use crate::{Ended, run_alone};
 use dg_base::Steps;
 use dg_files::{MemFiles, MemSink, are_distinct};
 use itoa::Buffer;
@@ -10,63 +14,6 @@ use std::sync::ledger::{Blank, Ledger};
 use std::test::Fail;
 
 const WORDS: &str = "run /e.txt --workers 0";
-
-const NOT_BUILT: &str = "error: not built\n";
-
-const FIRST: &str = "make Num a
-make Num b
-make Sum s
-set a.value 3
-set b.value 4
-connect a.value s.terms
-connect b.value s.terms
-ask now s.total
-";
-
-const FIRST_LINES: &str = "1: ok
-2: ok
-3: ok
-4: ok
-5: ok
-6: ok
-7: ok
-8: 7
-";
-
-const TEN: &str = "make Num a
-make Num b
-make Num c
-make Num d
-make Num e
-make Num f
-make Num g
-make Num h
-make Num i
-make Num j
-make Sum s
-set a.value 999999999
-set b.value 999999999
-set c.value 999999999
-set d.value 999999999
-set e.value 999999999
-set f.value 999999999
-set g.value 999999999
-set h.value 999999999
-set i.value 999999999
-set j.value 999999999
-connect a.value s.terms
-connect b.value s.terms
-connect c.value s.terms
-connect d.value s.terms
-connect e.value s.terms
-connect f.value s.terms
-connect g.value s.terms
-connect h.value s.terms
-connect i.value s.terms
-ask now s.total
-connect j.value s.terms
-ask now s.total
-";
 
 /// What a run has outside of it: a file, which is the script at `/e.txt` mostly, the numbers of the read and of the put that
 /// fail (0 for none), and how many bytes a put takes.
@@ -107,38 +54,37 @@ fn files_of(alloc: Global, outside: &Outside<'_>) -> Result<MemFiles, AllocError
     Ok(MemFiles::new(alloc, tree, vec![in alloc; outside.failing_read]?))
 }
 
-fn status_of<L: Ledger>(
+fn ended<L: Ledger>(
     alloc: Global,
     words: &[String],
     files: &mut MemFiles,
     out: &mut MemSink,
     blank: Blank,
-) -> u8
+) -> Ended
     requires name { blank.name ≡ L.name }
     requires parts { blank.parts ≡ L.parts }
     requires some { 0 < blank.parts }
 {
     let mut steps = Steps::<L>::open(blank);
     run_alone(alloc, words, files, out, &mut steps)
-        .status
-        .code()
 }
 
-fn played(alloc: Global, words: &[String], files: &mut MemFiles, out: &mut MemSink) -> u8 {
-    status_of::<Brand>(alloc, words, files, out, Blank::new(1))
+fn played(alloc: Global, words: &[String], files: &mut MemFiles, out: &mut MemSink) -> Ended {
+    ended::<Brand>(alloc, words, files, out, Blank::new(1))
 }
 
-/// The status of a run, and what it printed.
-fn run(alloc: Global, words: &str, outside: &Outside<'_>) -> Result<(u8, Vec<u8>), AllocError> {
+/// How a run ended, and what it printed.
+fn run(alloc: Global, words: &str, outside: &Outside<'_>) -> Result<(Ended, Vec<u8>), AllocError> {
     let words = words_of(alloc, words)?;
     let mut files = files_of(alloc, outside)?;
     let fail = vec![in alloc; outside.failing_put]?;
     let mut out = MemSink::new(alloc, fail, outside.most.max(1));
-    let status = played(alloc, words.as_slice(), &mut files, &mut out);
-    Ok((status, Vec::from_slice(alloc, out.as_slice())?))
+    let ended = played(alloc, words.as_slice(), &mut files, &mut out);
+    Ok((ended, Vec::from_slice(alloc, out.as_slice())?))
 }
 
-/// Whether a run ends with the status, having printed just the text.
+/// Whether a run ends with the status, having printed just the text. A desk is there just where a script was played to
+/// its end.
 fn ends(
     alloc: Global,
     words: &str,
@@ -147,7 +93,12 @@ fn ends(
     text: &str,
 ) -> Result<bool, AllocError> {
     let (ended, printed) = run(alloc, words, outside)?;
-    Ok(ended == status && printed.as_slice() == text.as_bytes())
+    let played = words.starts_with("run") && ended.status.code() == 0;
+    Ok(
+        ended.status.code() == status
+            && printed.as_slice() == text.as_bytes()
+            && ended.desk.is_some() == played,
+    )
 }
 
 #[test]
@@ -181,8 +132,8 @@ fn the_first_script_ends_as_the_outside_lets_it(rt: HostRuntime) -> Result<(), F
 
 #[test]
 fn a_sum_out_of_range_is_a_fault(rt: HostRuntime) -> Result<(), Fail> {
-    let (status, printed) = run(rt.alloc(), WORDS, &sound(TEN))?;
-    assert_eq!(rt; status, 0);
+    let (ended, printed) = run(rt.alloc(), WORDS, &sound(TEN))?;
+    assert_eq!(rt; ended.status.code(), 0);
     assert!(rt; printed.ends_with(b"30: ok\n31: 8999999991\n32: ok\n33: fault 11.total Range\n"));
     Ok(())
 }
@@ -190,24 +141,117 @@ fn a_sum_out_of_range_is_a_fault(rt: HostRuntime) -> Result<(), Fail> {
 #[test]
 fn the_words_decide_first(rt: HostRuntime) -> Result<(), Fail> {
     let alloc = rt.alloc();
-    for (words, status, text) in [
-        ("run", 1, "error: usage\n"),
-        ("run /e.txt --workers", 1, "error: usage\n"),
-        ("run /e.txt --workers 1", 1, "error: usage\n"),
-        ("run /e.txt --workers 00", 1, "error: usage\n"),
-        ("run /e.txt --workers 0 0", 1, "error: usage\n"),
-        ("run e.txt --workers 0", 1, "error: usage\n"),
-        ("run /e.txt/ --workers 0", 1, "error: usage\n"),
-        ("run /../e.txt --workers 0", 1, "error: usage\n"),
-        ("play /e.txt --workers 0", 1, "error: usage\n"),
-        ("run /none --workers 0", 2, "error: no input\n"),
-        ("run /e.txt/a --workers 0", 2, "error: no input\n"),
-        ("run /e.txt --workers 0", 3, "error: script line 1 Arity\n"),
-    ] {
+    for (words, status, text) in &WORDS_ENDED {
         assert!(rt;
-            ends(alloc, words, &sound("make"), status, text)?,
+            ends(alloc, words, &sound("make"), *status, text)?,
             "{words}"
         );
+    }
+    Ok(())
+}
+
+/// The words that play the script with a cache of this size, and tell the work.
+fn telling(alloc: Global, cache: &str) -> Result<String, AllocError> {
+    let mut words = String::from_str(alloc, "run /e.txt --workers 0 --stats --cache ")?;
+    words.push_str(cache)?;
+    Ok(words)
+}
+
+/// Whether a script prints its lines and its work, and without the flag the lines alone, for any number of workers.
+fn works(alloc: Global, row: &Worked) -> Result<bool, AllocError> {
+    let mut text = String::from_str(alloc, row.lines)?;
+    text.push_str(row.work)?;
+    let words = telling(alloc, row.cache)?;
+    let outside = sound(row.script);
+    Ok(
+        ends(alloc, words.as_str(), &outside, 0, text.as_str())?
+            && ends(alloc, "run e.txt --workers 3", &outside, 0, row.lines)?,
+    )
+}
+
+#[test]
+fn a_cache_changes_the_work_alone(rt: HostRuntime) -> Result<(), Fail> {
+    let alloc = rt.alloc();
+    for row in WORKED.iter() {
+        assert!(rt; works(alloc, row)?, "{}", row.cache);
+    }
+    Ok(())
+}
+
+/// Numbers that look random: a linear congruence, of which the upper bits are taken.
+#[derive(Drop)]
+struct Draws {
+    state: u64,
+}
+
+impl Draws {
+    fn below(&mut self, bound: u64) -> u64 {
+        self.state = self
+            .state
+            .wrapping_mul(6364136223846793005)
+            .wrapping_add(1442695040888963407);
+        (self.state >> 33).checked_rem(bound).unwrap_or(0)
+    }
+
+    fn pick<'a>(&mut self, words: &'a [&'a str]) -> &'a str {
+        let at = self.below(words.len() as u64) as usize;
+        words.get(at).copied().unwrap_or("undo\n")
+    }
+}
+
+const COMMANDS: [&str; 16] = [
+    "ask now s.total\n",
+    "ask now u.total\n",
+    "ask now t.total\n",
+    "ask p u.total\n",
+    "ask q t.total\n",
+    "pin p\n",
+    "pin q\n",
+    "drop p\n",
+    "set a.value 3\n",
+    "set b.value 0.5\n",
+    "connect a.value s.terms\n",
+    "disconnect s.total t.terms\n",
+    "connect t.total s.terms\n",
+    "evict 1\n",
+    "undo\n",
+    "redo\n",
+];
+
+/// A script of commands that were drawn, over two numbers and three sums.
+fn drawn(alloc: Global, seed: u64) -> Result<String, AllocError> {
+    let mut draws = Draws { state: seed };
+    let mut script = String::from_str(
+        alloc,
+        "make Num a\nmake Num b\nmake Sum s\nmake Sum t\nmake Sum u\nconnect b.value s.terms\nconnect s.total t.terms\nconnect t.total u.terms\n",
+    )?;
+    for _ in 0..60 {
+        script.push_str(draws.pick(&COMMANDS))?;
+    }
+    Ok(script)
+}
+
+/// Whether a script prints the same lines for every cache.
+fn is_same_for_every_cache(alloc: Global, script: &str) -> Result<bool, AllocError> {
+    let outside = sound(script);
+    let (_, plain) = run(alloc, WORDS, &outside)?;
+    for cache in ["1", "2", "5", "1000"] {
+        let words = telling(alloc, cache)?;
+        let (_, told) = run(alloc, words.as_str(), &outside)?;
+        match told.as_slice().strip_prefix(plain.as_slice()) {
+            Some(last) if last.starts_with(b"work ") => {}
+            _ => return Ok(false),
+        }
+    }
+    Ok(true)
+}
+
+#[test]
+fn drawn_scripts_print_the_same_lines_for_every_cache(rt: HostRuntime) -> Result<(), Fail> {
+    let alloc = rt.alloc();
+    for seed in 0..40 {
+        let script = drawn(alloc, seed)?;
+        assert!(rt; is_same_for_every_cache(alloc, script.as_str())?, "{seed}");
     }
     Ok(())
 }
@@ -221,111 +265,6 @@ fn all_end(alloc: Global, cases: &[(&str, &str)]) -> Result<bool, AllocError> {
     }
     Ok(true)
 }
-
-static SPELLED: [(&str, &str); 6] = [
-    ("", ""),
-    ("\n# a comment\n \t\r\n", ""),
-    ("\r\n  # a comment\nmake Num a\n", "3: ok\n"),
-    (
-        "\"make\" \"Sum\" \"s\"\n\"ask\"\t\"now\" \"s.total\"",
-        "1: ok\n2: 0\n",
-    ),
-    (
-        "make  Num  _a1\r\nset _a1.value 1.5e0\r\nmake Sum s\r\nconnect _a1.value s.terms\r\nask now s.total\r\n",
-        "1: ok\n2: ok\n3: ok\n4: ok\n5: 1.5\n",
-    ),
-    ("begin\n\n# none\nend", "1: Empty\n"),
-];
-
-/// Faults and what stands in for them, cycles, kinds and types.
-static GRAPHS: [(&str, &str); 5] = [
-    (
-        "make Num a\nmake Sum s\nmake Sum t\nconnect a.value s.terms\nconnect s.total t.terms\nask now t.total\nask now s.total\nask now t.total",
-        "1: ok\n2: ok\n3: ok\n4: ok\n5: ok\n6: 0\n7: 0\n8: 0\n",
-    ),
-    (
-        "make Num a\nmake Num b\nmake Sum s\nset a.value 9223372036.854775807\nset b.value 9223372036.854775807\nconnect a.value s.terms\nconnect b.value s.terms\nask now s.total\nmake Sum u\nconnect s.total u.extra\nask now u.total",
-        "1: ok\n2: ok\n3: ok\n4: ok\n5: ok\n6: ok\n7: ok\n8: fault 3.total Range\n9: ok\n10: ok\n11: 0\n",
-    ),
-    (
-        "make Sum p\nconnect p.total p.terms\nmake Sum q\nconnect p.total q.extra\nask now q.total\nask now p.total",
-        "1: ok\n2: ok\n3: ok\n4: ok\n5: cycle\n6: cycle\n",
-    ),
-    (
-        "make Num a\nmake Sum s\nbegin\nconnect a.value s.terms\nconnect a.value s.terms\nend\ndisconnect a.value s.terms\ndisconnect a.value s.terms\nconnect a.value s.value\nset a.value \"x\"",
-        "1: ok\n2: ok\n3: ok\n7: ok\n8: refused step 1 NoArc\n9: refused step 1 NotInput\n10: refused step 1 ValueType\n",
-    ),
-    (
-        "make Num a\ndefective a on\nask now a.value\ndefective a off\nask now a.value\nmake Text t\nconnect t.text a.value\nmake Join j\nconnect t.text j.parts\nconnect t.text j.total\nconnect a.value j.parts\nconnect j.parts j.parts\nclear a.value\nclear a.text\nclear a:speed\nmake ScriptFile f\nset f:speed number \"1\"\nask now f:speed\nclear f:speed\nask now f:speed\nask now f.resource\nask now a.child\nask now a.1",
-        "1: ok\n2: ok\n3: 0\n4: ok\n5: 0\n6: ok\n7: refused step 1 NotInput\n8: ok\n9: ok\n10: refused step 1 NotInput\n11: refused step 1 ArcType\n12: refused step 1 NotOutput\n13: ok\n14: refused step 1 NotProperty\n15: refused step 1 NotProperty\n16: ok\n17: ok\n18: speed number \"1\"\n19: ok\n20: fault 4:speed NoEndpoint\n21: {path: \"\", props: ()}\n22: fault 1.child NoEndpoint\n23: NoLabel\n",
-    ),
-];
-
-/// What is refused before a transaction is tried, and what is kept of it.
-static NAMES: [(&str, &str); 5] = [
-    (
-        "make Num a\nmake Num b\ndelete b\nbegin\nset a.value 5\nmake Num c\nset b.value 1\nend\nask now a.value",
-        "1: ok\n2: ok\n3: ok\n4: refused step 3 NoNode\n9: 0\n",
-    ),
-    ("set a.value 1", "1: refused step 1 NoName\n"),
-    (
-        "make Num a\nask now b.value\nask now a.frob\nask now b.frob\nset a.frob 1\nconnect b.value a.frob\nconnect a.frob a.frob\nconnect a.value b.frob\nalias c b\nalias c a\nask now c.value\nask now a@a.value\nset a@a.value 1\ndelete a@b",
-        "1: ok\n2: NoName\n3: NoLabel\n4: NoName\n5: refused step 1 NoLabel\n6: refused step 1 NoName\n7: refused step 1 NoLabel\n8: refused step 1 NoName\n9: NoName\n10: ok\n11: 0\n12: NoName\n13: refused step 1 NoNode\n14: refused step 1 NoName\n",
-    ),
-    (
-        "make ScriptFile f\nbegin\nset f:speed number \"1\"\nset f:size number \"2\"\nset g:more number \"3\"\nend\nask now f:speed\nask now f:size\nask now f:more\nset f:x number \"1\"\nask now f:x\nbegin\nset f:y number \"4\"\ndelete f\nset f:z number \"2\"\nend\nask now f:y\nask now f:z\nask now f:x\nmake Num n\nset n:w number \"1\"\nask now f:w",
-        "1: ok\n2: refused step 3 NoName\n7: fault 1:speed NoEndpoint\n8: fault 1:size NoEndpoint\n9: NoLabel\n10: ok\n11: x number \"1\"\n12: refused step 3 NoNode\n17: fault 1:y NoEndpoint\n18: fault 1:z NoEndpoint\n19: x number \"1\"\n20: ok\n21: refused step 1 NotProperty\n22: fault 1:w NoEndpoint\n",
-    ),
-    (
-        "make Num a\nset a.value 1\nbegin\nmake Num a\nset a.value 2\nmake Num b\nset b.text \"x\"\nend\nask now a.value\nask now b.value\nbegin\nset a.value 3\nmake Num a\nset a.value 4\nend\nask now a.value\nbegin\nset b.value 1\nmake Num b\nend\nmake Num b\nbegin\ndelete b\nmake Num b\nset b.value 6\nend\nask now b.value\ndelete a\nask now a.value\nset a.value 1\nalias c a\nask now c.value",
-        "1: ok\n2: ok\n3: refused step 4 NotProperty\n9: 1\n10: NoName\n11: ok\n16: 4\n17: refused step 1 NoName\n21: ok\n22: ok\n27: 6\n28: ok\n29: fault 2.value NoEndpoint\n30: refused step 1 NoNode\n31: ok\n32: fault 2.value NoEndpoint\n",
-    ),
-];
-
-/// Owned nodes, and overrides of them.
-static OVERRIDES: [(&str, &str); 4] = [
-    (
-        "make GameObject g\nmake ComponentEmbedded c\nset c.id \"c\"\nconnect c.component g.components\ndelete g\nask now c.id",
-        "1: ok\n2: ok\n3: ok\n4: ok\n5: ok\n6: fault 2.id NoEndpoint\n",
-    ),
-    (
-        "make GameObject g\nmake ComponentEmbedded c\nbegin\nset c.id \"c\"\nset c.type \"sprite\"\nconnect c.component g.components\nend\noverride o g\nalias oc c@o\nset c.data \"one\"\nask now oc.data\nset oc.data \"two\"\nset c.data \"three\"\nask now oc.data\nclear oc.data\nask now oc.data\ndelete o\nask now c.data\nask now oc.data",
-        "1: ok\n2: ok\n3: ok\n8: ok\n9: ok\n10: ok\n11: \"one\"\n12: ok\n13: ok\n14: \"two\"\n15: ok\n16: \"three\"\n17: ok\n18: \"three\"\n19: fault 4.data NoEndpoint\n",
-    ),
-    (
-        "make GameObject g\nmake ComponentEmbedded c\nset c.id \"c\"\nconnect c.component g.components\noverride o g\nmake ComponentEmbedded d\nset d.id \"d\"\nconnect d.component g.components\nask now o.object",
-        "1: ok\n2: ok\n3: ok\n4: ok\n5: ok\n6: ok\n7: ok\n8: ok\n9: {path: \"\", components: ({id: \"c\", type: \"\", data: \"\", position: [0, 0, 0], rotation: [0, 0, 0, 1]}, {id: \"d\", type: \"\", data: \"\", position: [0, 0, 0], rotation: [0, 0, 0, 1]})}\n",
-    ),
-    (
-        "make GameObject g\nmake ComponentEmbedded c\nset c.id \"c\"\nconnect c.component g.components\noverride o g\noverride p o\nmake ComponentEmbedded d\nset d.id \"d\"\nconnect d.component g.components\nalias x d@o\nalias y x@p\nask now y.id",
-        "1: ok\n2: ok\n3: ok\n4: ok\n5: ok\n6: ok\n7: ok\n8: ok\n9: ok\n10: ok\n11: ok\n12: \"d\"\n",
-    ),
-];
-
-/// Undo and redo, and pins, which show their revision's graph with today's names.
-static EDITED: [(&str, &str); 6] = [
-    (
-        "undo\nmake Num a\nundo\nredo\nredo",
-        "1: NothingToUndo\n2: ok\n3: ok\n4: ok\n5: NothingToRedo\n",
-    ),
-    (
-        "make Num a\npin old\nset a.value 9\nask old a.value\nask now a.value",
-        "1: ok\n2: pinned 1\n3: ok\n4: 0\n5: 9\n",
-    ),
-    ("ask p a.value", "1: NoPin\n"),
-    (
-        "pin p\nmake Num a\npin q\npin q\nset a.value 2\npin r\nask p a.value\nask q a.value\nask r a.value\ndrop q\nask q a.value\ndrop q\nset a.value 3\npin q\nask q a.value\nask r a.value\nundo\nundo\npin s\nask now a.value\nask s a.value\nask r a.value\ndrop nowhere",
-        "1: pinned 0\n2: ok\n3: pinned 1\n4: PinUsed\n5: ok\n6: pinned 2\n7: fault 1.value NoEndpoint\n8: 0\n9: 2\n10: ok\n11: NoPin\n12: NoPin\n13: ok\n14: pinned 3\n15: 3\n16: 2\n17: ok\n18: ok\n19: pinned 5\n20: 0\n21: 0\n22: 2\n23: NoPin\n",
-    ),
-    (
-        "make GameObject g\nmake ComponentEmbedded c\nset c.id \"c\"\nconnect c.component g.components\noverride o g\npin whole\nalias oc c@o\nset oc.id \"mine\"\ndelete g\npin gone\nask whole c@o.id\nask gone c@o.id\nask whole oc.id\nask now oc.id\nundo\nask now c@o.id\nundo\nask now c@o.id\nundo\nask now oc.id\nask whole oc.id\nredo\nask now c@o.id\nredo\nredo\nredo\nask now oc.id\nask whole oc.id",
-        "1: ok\n2: ok\n3: ok\n4: ok\n5: ok\n6: pinned 5\n7: ok\n8: ok\n9: ok\n10: pinned 7\n11: \"c\"\n12: NoName\n13: \"c\"\n14: fault 4.id NoEndpoint\n15: ok\n16: \"mine\"\n17: ok\n18: \"c\"\n19: ok\n20: fault 4.id NoEndpoint\n21: \"c\"\n22: ok\n23: \"c\"\n24: ok\n25: ok\n26: NothingToRedo\n27: fault 4.id NoEndpoint\n28: \"c\"\n",
-    ),
-    (
-        "make ScriptFile a\nset a:speed number \"1\"\nundo\nundo\nask now a:speed\nmake Num b\nask now b.value\nask now a.value\nredo\nalias c a\nask now c.value\nset c.value 1\nundo\nredo\nbegin\nmake Num d\nset d.value 4\nmake Num d\nend\nundo\nask now d.value\nredo\nask now d.value\nbegin\nend\nundo\nset d.value 1\nredo\nbegin\nset b.value 2\nset b.value 3\nend\nundo\nask now b.value\nredo\nask now b.value\nundo\nset b.value 5\nredo\nask now b.value",
-        "1: ok\n2: ok\n3: ok\n4: ok\n5: fault 1:speed NoEndpoint\n6: ok\n7: 0\n8: fault 1.value NoEndpoint\n9: NothingToRedo\n10: ok\n11: fault 1.value NoEndpoint\n12: refused step 1 NoNode\n13: ok\n14: ok\n15: ok\n20: ok\n21: fault 4.value NoEndpoint\n22: ok\n23: 0\n24: Empty\n26: ok\n27: refused step 1 NoNode\n28: ok\n29: ok\n33: ok\n34: 0\n35: ok\n36: 3\n37: ok\n38: ok\n39: NothingToRedo\n40: 5\n",
-    ),
-];
 
 #[test]
 fn scripts_are_read_in_every_spelling(rt: HostRuntime) -> Result<(), Fail> {
@@ -418,21 +357,6 @@ fn a_run_has_at_most_16384_revisions_and_1024_live_pins(rt: HostRuntime) -> Resu
     Ok(())
 }
 
-static REFUSED: [(&str, &str); 9] = [
-    ("begin\nmake Num a\n", "error: script line 1 OpenBlock\n"),
-    ("frob\n", "error: script line 1 Word\n"),
-    ("begin\nundo\nend\n", "error: script line 2 InBlock\n"),
-    ("make Num 1a\n", "error: script line 1 Value\n"),
-    ("undo\n\nmake Num\n", "error: script line 3 Arity\n"),
-    ("build a\n", NOT_BUILT),
-    ("evict 1\n", NOT_BUILT),
-    ("make Collection c\n", NOT_BUILT),
-    (
-        "make Num a\nbegin\nset a.value 1\nmake CollInstance i\nend\n",
-        NOT_BUILT,
-    ),
-];
-
 fn all_refused(alloc: Global) -> Result<bool, AllocError> {
     for (script, text) in &REFUSED {
         if !ends(alloc, WORDS, &sound(script), 3, text)? {
@@ -507,71 +431,6 @@ fn a_text_has_at_most_256_mib(rt: HostRuntime) -> Result<(), Fail> {
     assert!(rt; refused);
     Ok(())
 }
-
-/// Files, and what their formatting prints and ends with. The first four are those of the examples.
-static FORMATTED: [(&str, &str, u8, &str); 16] = [
-    (
-        "/hero.go",
-        "components {\n  id: \"script\"\n  component: \"/main/hero.script\"\n  position {\n    x: 1.5\n    y: -2.0e-1\n    z: 0.0\n  }\n  rotation {\n    z: 0.70710677\n    w: 7.0710677E-1\n  }\n  properties {\n    id: \"speed\"\n    value: \"120.0\"\n    type: PROPERTY_TYPE_NUMBER\n  }\n  properties {\n    id: \"home\"\n    value: \"10.0, 20.0, 0.5\"\n    type: PROPERTY_TYPE_VECTOR3\n  }\n  property_decls {\n    number_entries {\n      key: \"speed\"\n      id: 4\n    }\n  }\n}\nembedded_components {\n  id: \"sprite\"\n  type: \"sprite\"\n  data: \"default_animation: \\\"walk\\\"\\n\"\n  \"material: \\\"/builtins/materials/sprite.material\\\"\\n\"\n  \"textures {\\n\"\n  \"  sampler: \\\"texture_sampler\\\"\\n\"\n  \"  texture: \\\"/main/hero.atlas\\\"\\n\"\n  \"}\\n\"\n  \"\"\n  position {\n    z: 1.0E-1\n  }\n}\nembedded_components {\n  id: \"collisionobject\"\n  type: \"collisionobject\"\n  data: \"type: COLLISION_OBJECT_TYPE_KINEMATIC\\n\"\n  \"mass: 0.0\\n\"\n  \"group: \\\"hero\\\"\\n\"\n  \"embedded_collision_shape {\\n\"\n  \"  shapes {\\n\"\n  \"    shape_type: TYPE_BOX\\n\"\n  \"    id: \\\"caf\\303\\251 \\\\\\\"box\\\\\\\"\\\"\\n\"\n  \"  }\\n\"\n  \"  data: 16.0\\n\"\n  \"}\\n\"\n  \"\"\n  rotation {\n    w: 1.0\n  }\n}\n",
-        0,
-        "components {\n  id: \"script\"\n  component: \"/main/hero.script\"\n  position {\n    x: 1.5\n    y: -0.2\n  }\n  rotation {\n    z: 0.70710677\n    w: 0.70710677\n  }\n  properties {\n    id: \"speed\"\n    value: \"120.0\"\n    type: PROPERTY_TYPE_NUMBER\n  }\n  properties {\n    id: \"home\"\n    value: \"10.0, 20.0, 0.5\"\n    type: PROPERTY_TYPE_VECTOR3\n  }\n  property_decls {\n    number_entries {\n      key: \"speed\"\n      id: 4\n    }\n  }\n}\nembedded_components {\n  id: \"sprite\"\n  type: \"sprite\"\n  data: \"default_animation: \\\"walk\\\"\\nmaterial: \\\"/builtins/materials/sprite.material\\\"\\ntextures {\\n  sampler: \\\"texture_sampler\\\"\\n  texture: \\\"/main/hero.atlas\\\"\\n}\\n\"\n  position {\n    z: 0.1\n  }\n}\nembedded_components {\n  id: \"collisionobject\"\n  type: \"collisionobject\"\n  data: \"type: COLLISION_OBJECT_TYPE_KINEMATIC\\nmass: 0.0\\ngroup: \\\"hero\\\"\\nembedded_collision_shape {\\n  shapes {\\n    shape_type: TYPE_BOX\\n    id: \\\"café \\\\\\\"box\\\\\\\"\\\"\\n  }\\n  data: 16.0\\n}\\n\"\n}\n",
-    ),
-    (
-        "/terse.go",
-        "# one line each, with either quote, commas and semicolons\ncomponents: { id: 'a', component: '/main/a.script'; position { x: 1e0, y: +.5; z: -0 } };\n\nembedded_components { id: \"b\"; type: 'label', data: 'text: \"It\\'s\"' ' line \\061\\x0a'; font: \"/a.font\" }  # a field of another tool\n\n# the second `id` counts, and so does the last position\ncomponents {\n  id: \"old\" id: \"c\"\n  component: \"/main/c.factory\"\n  position { x: 9 }\n  position { }\n  properties { id: 'tint', value: '1, 1, 1, 1', type: PROPERTY_TYPE_VECTOR4 }\n  properties { id: 'turn', value: '0, 0, 0, 1', type: PROPERTY_TYPE_QUAT, note { by: hand } }\n}\nversion: 1\n",
-        0,
-        "components {\n  id: \"a\"\n  component: \"/main/a.script\"\n  position {\n    x: 1\n    y: 0.5\n  }\n}\ncomponents {\n  id: \"c\"\n  component: \"/main/c.factory\"\n  properties {\n    id: \"tint\"\n    value: \"1, 1, 1, 1\"\n    type: PROPERTY_TYPE_VECTOR4\n  }\n  properties {\n    id: \"turn\"\n    value: \"0, 0, 0, 1\"\n    type: PROPERTY_TYPE_QUAT\n    note {\n      by: hand\n    }\n  }\n}\nembedded_components {\n  id: \"b\"\n  type: \"label\"\n  data: \"text: \\\"It's\\\" line 1\\n\"\n  font: \"/a.font\"\n}\nversion: 1\n",
-    ),
-    (
-        "/level.collection",
-        "name: \"level\"\ninstances {\n  id: \"hero\"\n  prototype: \"/main/hero.go\"\n  position {\n    x: 480.0\n    y: 3.2e2\n  }\n  children: \"lamp\"\n  children: \"shadow\"\n  component_properties {\n    id: \"script\"\n    properties {\n      id: \"speed\"\n      value: \"1.5e2\"\n      type: PROPERTY_TYPE_NUMBER\n    }\n    properties {\n      id: \"target\"\n      value: \"main:/door#script\"\n      type: PROPERTY_TYPE_URL\n    }\n  }\n  scale3 {\n    x: 2.0\n    y: 2.0\n    z: 1.0\n  }\n}\ninstances {\n  id: \"door\"\n  prototype: \"/main/door.go\"\n  scale: 5.0E-1\n}\ncollection_instances {\n  id: \"north\"\n  collection: \"/main/room.collection\"\n  position {\n    x: 0.0\n    y: 1024.0\n    z: 0.0\n  }\n  rotation {\n    x: 0.0\n    y: 0.0\n    z: 1.0\n    w: 0.0\n  }\n  scale3 {\n    x: 1.0\n    y: 1.0\n    z: 1.0\n  }\n  instance_properties {\n    id: \"chest/lid\"\n    properties {\n      id: \"script\"\n      properties {\n        id: \"locked\"\n        value: \"true\"\n        type: PROPERTY_TYPE_BOOLEAN\n      }\n      properties {\n        id: \"sound\"\n        value: \"creak\"\n        type: PROPERTY_TYPE_HASH\n      }\n    }\n  }\n}\nscale_along_z: 1\nembedded_instances {\n  id: \"lamp\"\n  data: \"embedded_components {\\n\"\n  \"  id: \\\"light\\\"\\n\"\n  \"  type: \\\"sprite\\\"\\n\"\n  \"  data: \\\"default_animation: \\\\\\\"glow\\\\\\\"\\\\n\"\n  \"material: \\\\\\\"/builtins/materials/sprite.material\\\\\\\"\\\\n\"\n  \"\\\"\\n\"\n  \"  position {\\n\"\n  \"    y: 12.0\\n\"\n  \"  }\\n\"\n  \"}\\n\"\n  \"\"\n  position {\n    x: -4.0\n    y: 16.0\n    z: 1.0E-4\n  }\n}\nembedded_instances {\n  id: \"shadow\"\n  children: \"lamp\"\n  data: \"components {\\n  id: \\\"shade\\\"\\n  component: \\\"/main/shade.script\\\"\\n}\\n\"\n  rotation {\n    w: 9.0E-1\n    z: -4.3588990E-1\n  }\n}\n",
-        0,
-        "name: \"level\"\nscale_along_z: 1\ninstances {\n  id: \"hero\"\n  prototype: \"/main/hero.go\"\n  children: \"lamp\"\n  children: \"shadow\"\n  position {\n    x: 480\n    y: 320\n  }\n  scale3 {\n    x: 2\n    y: 2\n  }\n  component_properties {\n    id: \"script\"\n    properties {\n      id: \"speed\"\n      value: \"1.5e2\"\n      type: PROPERTY_TYPE_NUMBER\n    }\n    properties {\n      id: \"target\"\n      value: \"main:/door#script\"\n      type: PROPERTY_TYPE_URL\n    }\n  }\n}\ninstances {\n  id: \"door\"\n  prototype: \"/main/door.go\"\n  scale3 {\n    x: 0.5\n    y: 0.5\n    z: 0.5\n  }\n}\nembedded_instances {\n  id: \"lamp\"\n  data: \"embedded_components {\\n  id: \\\"light\\\"\\n  type: \\\"sprite\\\"\\n  data: \\\"default_animation: \\\\\\\"glow\\\\\\\"\\\\nmaterial: \\\\\\\"/builtins/materials/sprite.material\\\\\\\"\\\\n\\\"\\n  position {\\n    y: 12.0\\n  }\\n}\\n\"\n  position {\n    x: -4\n    y: 16\n    z: 0.0001\n  }\n}\nembedded_instances {\n  id: \"shadow\"\n  children: \"lamp\"\n  data: \"components {\\n  id: \\\"shade\\\"\\n  component: \\\"/main/shade.script\\\"\\n}\\n\"\n  rotation {\n    z: -0.4358899\n    w: 0.9\n  }\n}\ncollection_instances {\n  id: \"north\"\n  collection: \"/main/room.collection\"\n  position {\n    y: 1024\n  }\n  rotation {\n    z: 1\n    w: 0\n  }\n  instance_properties {\n    id: \"chest/lid\"\n    properties {\n      id: \"script\"\n      properties {\n        id: \"locked\"\n        value: \"true\"\n        type: PROPERTY_TYPE_BOOLEAN\n      }\n      properties {\n        id: \"sound\"\n        value: \"creak\"\n        type: PROPERTY_TYPE_HASH\n      }\n    }\n  }\n}\n",
-    ),
-    (
-        "/turned.collection",
-        "# a scale that stands before and behind three scales, and a name in two parts\nname: \"tur\" 'ned'\nscale_along_z: false\ninstances {\n  id: \"a\"\n  prototype: \"/main/hero.go\"\n  scale: 3\n  scale3 { z: 0.000000001 }\n}\ncollection_instances {\n  scale3 { }\n  scale: 2.0\n  collection: \"/main/level.collection\"\n  id: \"level\"\n}\nembedded_instances { id: \"empty\" data: \"\" scale: 0.25 }\n",
-        0,
-        "name: \"turned\"\ninstances {\n  id: \"a\"\n  prototype: \"/main/hero.go\"\n  scale3 {\n    z: 0.000000001\n  }\n}\nembedded_instances {\n  id: \"empty\"\n  data: \"\"\n  scale3 {\n    x: 0.25\n    y: 0.25\n    z: 0.25\n  }\n}\ncollection_instances {\n  id: \"level\"\n  collection: \"/main/level.collection\"\n}\n",
-    ),
-    (
-        "/p.go",
-        "components { id:\"p\" component:'/p.script' scale { x: 2.0 } position { x: 1e1 y:0.0 } }",
-        0,
-        "components {\n  id: \"p\"\n  component: \"/p.script\"\n  position {\n    x: 10\n  }\n  scale {\n    x: 2.0\n  }\n}\n",
-    ),
-    (
-        "/p.go",
-        "components { id:\"p\" component:'/p.script' scale { x: 2.0 } position { x: 1e1",
-        3,
-        "error: file line 1 Unclosed\n",
-    ),
-    (
-        "/m.collection",
-        "name:\"m\" zeta:1 name:'n'",
-        0,
-        "name: \"n\"\nzeta: 1\n",
-    ),
-    (
-        "/p.go",
-        "components { id: \"p\" }",
-        3,
-        "error: file line 1 Missing\n",
-    ),
-    ("/p.go", "\n\ncomponents: 1", 3, "error: file line 3 Form\n"),
-    ("/p.go", "\n}", 3, "error: file line 2 Token\n"),
-    ("/p.go", "", 0, ""),
-    ("/p.go", "z: 1", 0, "z: 1\n"),
-    ("/m.collection", "", 3, "error: file line 1 Missing\n"),
-    (
-        "/d/m.collection",
-        "name: \"a\\\"b\" # a comment\n",
-        0,
-        "name: \"a\\\"b\"\n",
-    ),
-    ("/p.txt", "z: 1", 1, "error: usage\n"),
-    ("/d/../p.go", "z: 1", 1, "error: usage\n"),
-];
 
 /// Whether a run that formats a file ends with the status, having printed just the text.
 fn formats(

@@ -1,12 +1,13 @@
 //! The printed texts of refusals and lines. Each call puts its text behind what is there.
-ghost use Rattle.std.specs.Prelude.{◌≡◌, ◌++◌, codes, IfOk, OnOk};
+ghost use Rattle.std.specs.Prelude.{◌≡◌, [], ◌∷◌, ◌++◌, codes, IfOk, OnOk};
 ghost use Rattle.dg_tool.specs.Halts.{error_line, limit_text};
-ghost use Rattle.dg_tool.specs.Text.{missing_text, code_text, refused_text, pinned_text, bad_code_text, bad_file_text, bad_line_text, file_code_text};
+ghost use Rattle.dg_tool.specs.Text.{missing_text, code_text, refused_text, pinned_text, bad_code_text, bad_file_text, bad_line_text, file_code_text, stats_text};
 
 use crate::halt::{FileCode, Limit};
 use dg_base::TxCode;
 use dg_bind::Missing;
 use dg_files::Bytes;
+use dg_play::WorkDone;
 use dg_script::ScriptCode;
 use itoa::Buffer;
 use std::alloc::{AllocError, Global};
@@ -30,6 +31,21 @@ pub(crate) fn put_pinned(out: &mut Vec<u8>, number: u32) -> Result<(), AllocErro
 {
     out.extend_from_slice(b"pinned ")?;
     out.extend_from_slice(Buffer::new().format(number).as_bytes())
+}
+
+/// The line on the work that was done: how many productions were made, how many entries of what was published were
+/// kept, and how many came late.
+pub(crate) fn stats_line(alloc: Global, work: WorkDone) -> Result<Bytes, AllocError>
+    ensures { IfOk result (λ l. l ≡ stats_text work.made work.kept work.late ++ 10 ∷ []) }
+{
+    let mut line = Vec::from_slice(alloc, b"work ")?;
+    line.extend_from_slice(Buffer::new().format(work.made).as_bytes())?;
+    line.extend_from_slice(b" kept ")?;
+    line.extend_from_slice(Buffer::new().format(work.kept).as_bytes())?;
+    line.extend_from_slice(b" late ")?;
+    line.extend_from_slice(Buffer::new().format(work.late).as_bytes())?;
+    line.extend_from_slice(b"\n")?;
+    Ok(Bytes::from_vec(line))
 }
 
 pub(crate) fn missing_text(missing: Missing) -> &'static str

@@ -26,7 +26,7 @@ pub fn deletes()
     ensures { prints deleting deleted_lines }
 {}
 
-/// An empty script prints nothing. A kind that isn't made yet isn't built. A block that isn't closed
+/// An empty script prints nothing. A command that isn't played yet isn't built. A block that isn't closed
 /// is bad at its first line.
 pub fn reads()
     ensures empty { prints [] [] }

@@ -1,4 +1,4 @@
 use Rattle.dg_tool.proofs.tests.played.Given as goal
 
-abbrev pub ghosts-status_of : goal.ghosts-status_of
-ghosts-status_of a = record { name = a.blank.name; parts = a.blank.parts }
+abbrev pub ghosts-ended : goal.ghosts-ended
+ghosts-ended a = record { name = a.blank.name; parts = a.blank.parts }
