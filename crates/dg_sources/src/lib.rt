@@ -21,5 +21,5 @@ pub use bad::{BadCode, BadPlace, Unread};
 pub use limits::{Large, LoadEnd, MAX_FILE, MAX_FILES, MAX_TOTAL};
 pub use places::BadPlaces;
 pub use project::read_sources;
-pub use reading::read_object;
+pub use reading::{read_collection, read_object};
 pub use source::{CollSource, GoSource, Reads, ScriptSource, Sources};

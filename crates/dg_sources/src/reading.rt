@@ -40,11 +40,8 @@ pub fn read_object(alloc: Global, bytes: &[u8]) -> Result<Result<GoDesc, Unread>
     }
 }
 
-/// The collection that a text says, or the first place where it stops to be one.
-pub(crate) fn read_collection(
-    alloc: Global,
-    bytes: &[u8],
-) -> Result<Result<CollDesc, Unread>, AllocError>
+/// The collection that a text says, or the first place where it stops to be one, in time linear in the text.
+pub fn read_collection(alloc: Global, bytes: &[u8]) -> Result<Result<CollDesc, Unread>, AllocError>
     ensures { IfOk result (λ read. read ≡ collection_in bytes.now) }
 {
     let tree = match read_tree(alloc, bytes) {
