@@ -1,0 +1,20 @@
+-- In reading order: each module uses only the ones before it.
+pub mod Lists
+pub mod Targets
+pub mod Outcomes
+pub mod Growth
+pub mod Owning
+pub mod Naming
+pub mod Steps
+pub mod Overriding
+pub mod Drafts
+pub mod Properties
+pub mod Schema
+pub mod Facts
+pub mod Components
+pub mod Files
+pub mod Instances
+pub mod Embedded
+pub mod Subs
+pub mod Filling
+pub mod Whole
