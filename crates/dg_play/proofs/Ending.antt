@@ -23,7 +23,7 @@ use Rattle.dg_world.specs.Worlds.{Worlded}
 use Rattle.dg_world.specs.Laws.{IsWorld}
 use Rattle.dg_play.specs.Asks.{Ask}
 use Rattle.dg_play.specs.Pins.{pin_named, max_pins}
-use Rattle.dg_play.specs.Play.{State, Reply, Empty, LineFull, NothingToUndo, NothingToRedo, NoName, NoLabel, Misses, Refused, PinUsed, PinsFull, PinnedAt, NoPin, NotBuilt, Answers, alias, ask, dropped, graph_now, moved, pinned, played, refusal_reply, taken_over, transacted, turn_of, unchanged, with_names, with_pin}
+use Rattle.dg_play.specs.Play.{State, Reply, Empty, LineFull, NothingToUndo, NothingToRedo, NoName, NoLabel, Misses, Refused, PinUsed, PinsFull, PinnedAt, NoPin, Answers, Builds, built, alias, ask, dropped, graph_now, moved, pinned, played, refusal_reply, taken_over, transacted, turn_of, unchanged, with_names, with_pin}
 use Rattle.dg_play.specs.Play.{Done as Said}
 use Rattle.dg_play.specs.Work.{Work, after_reply, after_turn, no_work, work_of, worked_on}
 use Rattle.dg_play.specs.Desk.{AreWhole, IsBegun, IsDeskOf, IsWhole, IsWorked, answer_in, answers_in, as_seen, asks_in, asks_told, evictions_told, follows_in, follows_told, is_evict, is_whole, kept_told, late_told, numbers_below, numbers_in, numbers_told, work_in}
@@ -86,8 +86,8 @@ module _ (t : Tables) (c : ℕ) where
   reply-asks now PinsFull w = sym (append-nil w.asks)
   reply-asks now (PinnedAt n) w = sym (append-nil w.asks)
   reply-asks now NoPin w = sym (append-nil w.asks)
-  reply-asks now NotBuilt w = sym (append-nil w.asks)
   reply-asks now (Answers a) w = refl
+  reply-asks now (Builds a) w = refl
 
   reply-evictions : (now : Seen) (r : Reply) (w : Work) → (after_reply t c now r w).evictions ≡ w.evictions
   reply-evictions now Said w = refl
@@ -103,8 +103,8 @@ module _ (t : Tables) (c : ℕ) where
   reply-evictions now PinsFull w = refl
   reply-evictions now (PinnedAt n) w = refl
   reply-evictions now NoPin w = refl
-  reply-evictions now NotBuilt w = refl
   reply-evictions now (Answers a) w = refl
+  reply-evictions now (Builds a) w = refl
 
   turn-asks : (now : Seen) (s : State) (x : Done) (w : Work) → (after_turn t c now x (turn_of t s x) w).asks ≡ w.asks ++ answer_in (turn_of t s x).reply
   turn-asks now s (act.Step words) w = quiet w.asks (answer_in (turn_of t s (act.Step words)).reply) (transacted-quiet t s (steps_bound s.bound s.names (words ∷ [])))
@@ -115,7 +115,7 @@ module _ (t : Tables) (c : ℕ) where
   turn-asks now s (act.Drop name) w = quiet w.asks (answer_in (turn_of t s (act.Drop name)).reply) (dropped-quiet s name (pin_named s.pins name))
   turn-asks now s (act.Ask pin at) w = reply-asks now (ask s pin at) w
   turn-asks now s (act.Alias name node) w = quiet w.asks (answer_in (turn_of t s (act.Alias name node)).reply) (alias-quiet s name (node_of_question (graph_now s) s.bound node))
-  turn-asks now s (act.Build node) w = sym (append-nil w.asks)
+  turn-asks now s (act.Build node) w = reply-asks now (built s.editor.now (node_of_question (graph_now s) s.bound node)) w
   turn-asks now s (act.Evict most) w = sym (append-nil w.asks)
 
   turn-evictions : (now : Seen) (s : State) (x : Done) (w : Work) → (after_turn t c now x (turn_of t s x) w).evictions ≡ w.evictions + cond (is_evict x) 1 0
@@ -127,7 +127,7 @@ module _ (t : Tables) (c : ℕ) where
   turn-evictions now s (act.Drop name) w = omega arith
   turn-evictions now s (act.Ask pin at) w = let e = reply-evictions now (ask s pin at) w in omega (arith, e)
   turn-evictions now s (act.Alias name node) w = omega arith
-  turn-evictions now s (act.Build node) w = omega arith
+  turn-evictions now s (act.Build node) w = let e = reply-evictions now (built s.editor.now (node_of_question (graph_now s) s.bound node)) w in omega (arith, e)
   turn-evictions now s (act.Evict most) w = refl
 
   -- what is evaluated is what the lines answer

@@ -13,7 +13,6 @@ use Rattle.dg_world.specs.Steps.{IsAnswered, IsDropped, IsPinned, IsPublished, k
 use Rattle.dg_play.specs.declared.reply.Reply.{Reply as CodeReply}
 use Rattle.dg_play.specs.declared.reply.Reply.TheVariants as reply
 use Rattle.dg_play.specs.Asks.{Ask}
-use Rattle.dg_play.specs.Play.{Answers}
 use Rattle.dg_play.specs.Seen.{reply_of}
 use Rattle.dg_play.specs.Work.{Work, after_ask, after_reply}
 use Rattle.dg_play.specs.Desk.{IsWhole, IsWorked, as_seen, work_in}
@@ -36,8 +35,8 @@ silent-reply t c now reply.PinUsed w h = refl
 silent-reply t c now reply.PinsFull w h = refl
 silent-reply t c now (reply.PinnedAt number) w h = refl
 silent-reply t c now reply.NoPin w h = refl
-silent-reply t c now reply.NotBuilt w h = refl
 silent-reply t c now (reply.Answers a) w h = absurd h
+silent-reply t c now (reply.Builds a) w h = absurd h
 
 module _ {N M : Type 0} (t : Tables) where
   -- an evaluation at a live pin, and its publication
@@ -75,7 +74,7 @@ module _ {N M : Type 0} (t : Tables) where
   -- ---- the work of a reply
 
   pub reply-worked : (w v : Worlded N M) (p : Pin Seen M) (e : Endpoint) (a : Ask) → a ≡ record { revision = p.revision; at = e } → IsAsked t p e w v →
-      IsWorked w v (after_reply t w.desk.capacity w.editor.here.revision (Answers a) (work_in w))
+      IsWorked w v (after_ask t w.desk.capacity w.editor.here.revision a (work_in w))
   reply-worked w v p e a is asked =
       subst (λ (q : Ask). IsWorked w v (after_ask t w.desk.capacity w.editor.here.revision q (work_in w))) (sym is) asked.worked
 

@@ -19,7 +19,7 @@ use Rattle.dg_script.specs.declared.command.Command.{Command}
 use Rattle.dg_script.specs.declared.command.Act.{Act as Done}
 use Rattle.dg_script.specs.declared.command.Act.TheVariants as act
 use Rattle.dg_play.specs.Asks.{Ask}
-use Rattle.dg_play.specs.Play.{State, Reply, Answers, Line, played}
+use Rattle.dg_play.specs.Play.{State, Reply, Answers, Builds, Line, played}
 use Rattle.dg_play.specs.Work.{Work, moved_on, work_of}
 
 -- ---- what one record tells
@@ -141,6 +141,7 @@ as_seen r = r
 -- the answers that the lines of a play have, in order
 abbrev pub answer_in : Reply → List Ask
 answer_in (Answers a) = a ∷ []
+answer_in (Builds a) = a ∷ []
 answer_in _ = []
 
 abbrev pub answers_in : List Line → List Ask

@@ -16,6 +16,7 @@ use Rattle.dg_bind.specs.declared.refusal.Missing.{Missing}
 use Rattle.dg_bind.specs.Bindings.{Binding, bind}
 use Rattle.dg_bind.specs.Steps.{Taken, Missed, steps_bound}
 use Rattle.dg_bind.specs.Question.{node_of_question, label_of_question}
+use Rattle.dg_labels.specs.declared.labels.TheConstants as labels
 use Rattle.dg_line.specs.Revisions.{Seen}
 use Rattle.dg_editor.specs.declared.cause.EditCause.{EditCause}
 use Rattle.dg_editor.specs.declared.cause.EditCause.TheVariants as edit
@@ -33,7 +34,8 @@ pub record State : Type 0 where
 abbrev pub graph_now : State → Graph
 graph_now s = s.editor.now.graph
 
--- what a command prints: a text that is known at once, or the answer that is asked for
+-- what a command prints: a text that is known at once, the answer that is asked for, or what the answer that is built
+-- comes to
 pub data Reply : Type 0 where
   Done : Reply
   Empty : Reply
@@ -48,8 +50,8 @@ pub data Reply : Type 0 where
   PinsFull : Reply
   PinnedAt : ℕ → Reply
   NoPin : Reply
-  NotBuilt : Reply
   Answers : Ask → Reply
+  Builds : Ask → Reply
 
 -- what a command leaves, and what it prints
 pub record Turn : Type 0 where
@@ -147,6 +149,11 @@ ask_at s at (Some r) = asked r (node_of_question r.graph s.bound at.node) (label
 abbrev pub ask : State → Option (List ℕ) → EpWords → Reply
 ask s pin at = ask_at s at (revision_asked s pin)
 
+-- the build output of a node, at the current revision
+abbrev pub built : Seen → Option NodeId → Reply
+built r None = NoName
+built r (Some n) = Builds (record { revision = r; at = record { node = n; label = labels.BUILD } })
+
 -- one more name for a node
 abbrev pub alias : State → List ℕ → Option NodeId → Turn
 alias s name None = unchanged s NoName
@@ -154,7 +161,7 @@ alias s name (Some n) = record { state = with_bound s (bind s.bound name n); rep
 
 -- ---- turns
 
--- the turn of a command. What isn't played yet says so
+-- the turn of a command
 abbrev pub turn_of : Tables → State → Act → Turn
 turn_of t s (act.Step w) = transaction t s (w ∷ [])
 turn_of t s (act.Block ws) = transaction t s ws
@@ -164,7 +171,7 @@ turn_of t s (act.Pin name) = pinned s name (pin_named s.pins name)
 turn_of t s (act.Drop name) = dropped s name (pin_named s.pins name)
 turn_of t s (act.Ask pin at) = unchanged s (ask s pin at)
 turn_of t s (act.Alias name node) = alias s name (node_of_question (graph_now s) s.bound node)
-turn_of t s (act.Build node) = unchanged s NotBuilt
+turn_of t s (act.Build node) = unchanged s (built s.editor.now (node_of_question (graph_now s) s.bound node))
 turn_of t s (act.Evict most) = unchanged s Done
 
 -- a command's line in the script, with what the command prints

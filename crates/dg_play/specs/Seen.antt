@@ -7,7 +7,7 @@ use Rattle.dg_play.specs.declared.reply.Reply.{Reply as CodeReply}
 use Rattle.dg_play.specs.declared.reply.Reply.TheVariants as reply
 use Rattle.dg_play.specs.declared.reply.Line.{Line as CodeLine}
 use Rattle.dg_play.specs.Pins.{Pinned}
-use Rattle.dg_play.specs.Play.{State, Reply, Done, Empty, LineFull, NothingToUndo, NothingToRedo, NoName, NoLabel, Misses, Refused, PinUsed, PinsFull, PinnedAt, NoPin, NotBuilt, Answers, Line}
+use Rattle.dg_play.specs.Play.{State, Reply, Done, Empty, LineFull, NothingToUndo, NothingToRedo, NoName, NoLabel, Misses, Refused, PinUsed, PinsFull, PinnedAt, NoPin, Answers, Builds, Line}
 
 abbrev pub pin_of : CodePin → Pinned
 pin_of p = record { name = p.name; revision = p.ticket.revision }
@@ -32,8 +32,8 @@ reply_of reply.PinUsed = PinUsed
 reply_of reply.PinsFull = PinsFull
 reply_of (reply.PinnedAt number) = PinnedAt number
 reply_of reply.NoPin = NoPin
-reply_of reply.NotBuilt = NotBuilt
 reply_of (reply.Answers a) = Answers a
+reply_of (reply.Builds a) = Builds a
 
 abbrev pub line_of : CodeLine → Line
 line_of l = record { number = l.number; reply = reply_of l.reply }

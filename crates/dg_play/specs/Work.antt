@@ -14,7 +14,7 @@ use Rattle.dg_script.specs.declared.command.Command.{Command}
 use Rattle.dg_script.specs.declared.command.Act.{Act}
 use Rattle.dg_script.specs.declared.command.Act.TheVariants as act
 use Rattle.dg_play.specs.Asks.{Ask}
-use Rattle.dg_play.specs.Play.{State, Reply, Answers, Turn, turn_of}
+use Rattle.dg_play.specs.Play.{State, Reply, Answers, Builds, Turn, turn_of}
 
 -- the entries of the cache, most recent first; how many productions were made, how many entries of what was offered
 -- were kept, and how many came late; the answers that were evaluated, and how many evictions there were
@@ -65,6 +65,7 @@ after_ask t capacity now a w = after_walk t capacity now a (walk_of t a.revision
 
 abbrev pub after_reply : Tables → ℕ → Seen → Reply → Work → Work
 after_reply t capacity now (Answers a) w = after_ask t capacity now a w
+after_reply t capacity now (Builds a) w = after_ask t capacity now a w
 after_reply t capacity now _ w = w
 
 -- ---- an eviction: so many entries go, or all where there are fewer
@@ -84,6 +85,7 @@ after_evict most w = record {
 -- the work of a command, by the revisions before and after it, and by what it prints
 abbrev pub after_turn : Tables → ℕ → Seen → Act → Turn → Work → Work
 after_turn t capacity before (act.Ask pin at) turn w = after_reply t capacity before turn.reply w
+after_turn t capacity before (act.Build node) turn w = after_reply t capacity before turn.reply w
 after_turn t capacity before (act.Evict most) turn w = after_evict most w
 after_turn t capacity before _ turn w = moved_on before turn.state.editor.now w
 

@@ -5,7 +5,7 @@ ghost use Rattle.dg_kinds_coll.specs.Defold.{defold_tables};
 ghost use Rattle.dg_line.specs.Revisions.{Seen};
 ghost use Rattle.dg_world.specs.Worlds.{pin_at};
 ghost use Rattle.dg_play.specs.Desk.{IsWorked, work_in};
-ghost use Rattle.dg_play.specs.Play.{alias, ask, ask_at, asked, graph_now, unchanged};
+ghost use Rattle.dg_play.specs.Play.{alias, ask, ask_at, asked, built, graph_now, unchanged};
 ghost use Rattle.dg_play.specs.Seen.{reply_of, state_of};
 ghost use Rattle.dg_play.specs.States.{IsPlayed, IsSilent, endpoint_reply};
 ghost use Rattle.dg_play.specs.Work.{after_reply};
@@ -16,6 +16,7 @@ use crate::reply::Reply;
 use crate::state::{ScriptTicket, State};
 use dg_base::{Endpoint, Label, NodeId, Steps, Str};
 use dg_bind::{label_of_question, node_of_question};
+use dg_labels::labels;
 use dg_script::EpWords;
 use std::alloc::{AllocError, Global};
 use std::sync::ledger::Ledger;
@@ -123,6 +124,34 @@ fn endpoint_of(node: Option<NodeId>, label: Option<Label>) -> Result<Endpoint, R
         (None, _) => Err(Reply::NoName),
         (Some(_), None) => Err(Reply::NoLabel),
         (Some(node), Some(label)) => Ok(Endpoint { node, label }),
+    }
+}
+
+/// The build of a node at the current revision.
+pub(crate) fn build<L: Ledger>(
+    alloc: Global,
+    state: &mut State,
+    node: &str,
+    steps: &mut Steps<L>,
+) -> Result<Reply, AllocError>
+    requires { IsPlayed state.old }
+    ensures turn { IfOk result
+        (λ r. unchanged (state_of state.old) (built state.old.world.editor.here.revision (node_of_question (graph_now (state_of state.old)) state.old.bound node.now)) ≡ record { state = state_of state.new; reply = reply_of r }) }
+    ensures played { OnOk result (IsPlayed state.new) }
+    ensures work { IfOk result (λ r. IsWorked state.old.world state.new.world (after_reply defold_tables state.old.world.desk.capacity state.old.world.editor.here.revision (reply_of r) (work_in state.old.world))) }
+    ensures steps { OnOk result (steps.new + state.old.world.made ≡ steps.old + state.new.world.made) }
+{
+    let ticket = state.world.now().share()?;
+    match node_of_question(alloc, ticket.revision().graph(), &state.bound, node)? {
+        Some(node) => {
+            let endpoint = Endpoint {
+                node,
+                label: labels::BUILD,
+            };
+            let answered = answer_now(&mut state.world, ticket, endpoint, steps)?;
+            Ok(Reply::Builds(answered))
+        }
+        None => Ok(Reply::NoName),
     }
 }
 

@@ -7,7 +7,7 @@ ghost use Rattle.dg_play.specs.Seen.{line_of, reply_of, state_of};
 ghost use Rattle.dg_play.specs.States.{IsPlayed};
 ghost use Rattle.dg_play.specs.Work.{after_turn, work_of, worked_on};
 
-use crate::asking::{alias, ask};
+use crate::asking::{alias, ask, build};
 use crate::evicting::evict;
 use crate::moving::{redo, undo};
 use crate::pinning::{drop_name, pin};
@@ -82,6 +82,6 @@ fn turn<L: Ledger>(
         Act::Ask { pin, at } => ask(alloc, state, pin, at, steps),
         Act::Alias { name, node } => alias(alloc, state, name.as_str(), node.as_str()),
         Act::Evict { most } => evict(state, *most, steps),
-        Act::Build { .. } => Ok(Reply::NotBuilt),
+        Act::Build { node } => build(alloc, state, node.as_str(), steps),
     }
 }

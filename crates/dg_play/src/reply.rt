@@ -8,7 +8,8 @@ use dg_base::TxCode;
 use dg_bind::Missing;
 use dg_editor::EditCause;
 
-/// What a command prints: a text that is known at once, or the answer that was asked for.
+/// What a command prints: a text that is known at once, the answer that was asked for, or what the answer that was
+/// built comes to.
 #[derive(Drop)]
 pub enum Reply {
     Done,
@@ -27,8 +28,8 @@ pub enum Reply {
     /// A pin is at the revision with this number.
     PinnedAt { number: u32 },
     NoPin,
-    NotBuilt,
     Answers(Answered),
+    Builds(Answered),
 }
 
 /// A command's line in the script, with what the command prints.

@@ -98,20 +98,28 @@ impl State {
         })
     }
 
-    /// The cache, when nothing more is played.
-    pub fn into_desk(self) -> ScriptDesk
-        ensures desk { result ≡ self.world.desk }
-        ensures coherent { IsDesk as_seen defold_tables result }
+    /// The cache and the interned names, when nothing more is played.
+    pub fn into_parts(self) -> (ScriptDesk, Names)
+        ensures desk { result.0 ≡ self.world.desk }
+        ensures coherent { IsDesk as_seen defold_tables result.0 }
+        ensures names { result.1 ≡ self.names }
     {
-        let State { world, .. } = self;
-        let mut place = Some(world);
-        match World::take_desk(&mut place) {
-            Some(desk) => {
-                desk.is_desk();
-                desk
-            }
-            None => unreachable!(),
+        let State { world, names, .. } = self;
+        (desk_of(world), names)
+    }
+}
+
+fn desk_of(world: ScriptWorld) -> ScriptDesk
+    ensures desk { result ≡ world.desk }
+    ensures coherent { IsDesk as_seen defold_tables result }
+{
+    let mut place = Some(world);
+    match World::take_desk(&mut place) {
+        Some(desk) => {
+            desk.is_desk();
+            desk
         }
+        None => unreachable!(),
     }
 }
 

@@ -123,7 +123,7 @@ fn goes<L: Ledger>(alloc: Global, row: &Row, blank: Blank) -> Result<bool, Alloc
     };
     let Played { state, .. } = play_commands(alloc, commands.as_slice(), begin, &mut steps)?;
     let work = state.work()?;
-    let desk = state.into_desk();
+    let (desk, _) = state.into_parts();
     Ok(work == row.work && desk.cache_len() == row.entries && desk.history().len() == row.records)
 }
 

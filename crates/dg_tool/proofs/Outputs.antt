@@ -1,25 +1,25 @@
 -- What is known before the first put.
-use Rattle.std.proofs.Common.{◌≡◌, ℕ, List, [], ◌∷◌, ◌++◌, map, Bool, true, false, cond, Option, Some, None, Result, Ok, Err, refl, sym, ap, ◌∙◌, subst}
+use Rattle.std.proofs.Common.{◌≡◌, ℕ, List, [], ◌∷◌, ◌++◌, map, Bool, true, false, Option, Result, Ok, Err, refl, sym, ap, ◌∙◌, subst}
 use Rattle.std.specs.Prelude.{IfOk}
 use Rattle.dg_base.specs.Tables.{Tables}
 use Rattle.dg_base.specs.Refusal.{and_then}
 use Rattle.dg_base.specs.declared.refusal.Refusal.{Refusal}
-use Rattle.dg_base.specs.declared.refusal.Refusal.TheVariants as refusal
 use Rattle.dg_files.specs.Tree.{Tree}
 use Rattle.dg_line.specs.Revisions.{Seen}
 use Rattle.dg_desk.specs.Desks.{Desked}
+use Rattle.dg_script.specs.declared.command.Command.{Command}
 use Rattle.dg_play.specs.Play.{Played}
 use Rattle.dg_world.specs.Worlds.{Worlded}
-use Rattle.dg_play.specs.Work.{Work, work_of}
+use Rattle.dg_play.specs.Work.{Work}
 use Rattle.dg_play.specs.Desk.{IsDeskOf, work_in}
 use Rattle.dg_tool.specs.declared.halt.Halt.{Halt}
-use Rattle.dg_tool.specs.declared.halt.Halt.TheVariants as halt
-use Rattle.dg_tool.specs.declared.halt.Limit.TheVariants as limit
 use Rattle.dg_tool.specs.declared.output.Output.{Output}
 use Rattle.dg_tool.specs.Text.{stats_text}
-use Rattle.dg_tool.specs.Input.{Start, Tells, loaded, script_of, start_of}
-use Rattle.dg_tool.specs.Out.{done, halted, is_large, line_text, out_of_lines, out_of_played, out_of_start, out_of_text, played_from, stats_lines, work_from}
-use Rattle.dg_tool.specs.Statement.{IsDeskOfStart, IsOutput, made_by_start}
+use Rattle.dg_tool.specs.Project.{Project, loaded}
+use Rattle.dg_tool.specs.Input.{Start, Tells, start_of, start_with}
+use Rattle.dg_tool.specs.Out.{fitting, out_of_fitting, out_of_played, out_of_start, out_of_text, played_from, played_lines, stats_lines, work_from}
+use Rattle.dg_tool.specs.Statement.{IsDeskOfStart, IsOutput, alone, made_by_start}
+use Rattle.dg_tool.proofs.Tellings.{told-out}
 
 pub map_both : {X Y Z : Type 0} (f : Y → Z) (g : X → Y) (xs : List X) → map f (map g xs) ≡ map (λ x. f (g x)) xs
 map_both f g [] = refl
@@ -32,63 +32,40 @@ stats-same true v w made kept late =
     ap (λ n. (stats_text n v.kept v.late ++ 10 ∷ []) ∷ []) made ∙ ap (λ n. (stats_text w.made n v.late ++ 10 ∷ []) ∷ []) kept
     ∙ ap (λ n. (stats_text w.made w.kept n ++ 10 ∷ []) ∷ []) late
 
--- a world in which a start was played, over a cache of its capacity
-module _ {N M : Type 0} (t : Tables) (s : Start) (v : Worlded N M) (n : ℕ) (same : n ≡ s.capacity) where
-  pub desk-from : IsDeskOf t n s.commands s.begin v.desk → IsDeskOf t s.capacity s.commands s.begin v.desk
-  desk-from desk = subst (λ k. IsDeskOf t k s.commands s.begin v.desk) same desk
+-- what a start comes to, in a world in which it was played
+module _ {N M : Type 0} (t : Tables) (s : Start) (v : Worlded N M) where
+  pub stats-from : (stats : Bool) → IsDeskOf t s.capacity s.commands s.begin v.desk → v.made ≡ (work_from t s).made → stats_lines stats (work_in v) ≡ stats_lines stats (work_from t s)
+  stats-from stats desk made = stats-same stats (work_in v) (work_from t s) made desk.kept desk.late
 
-  pub made-from : v.made ≡ (work_of t n s.commands s.begin).made → v.made ≡ (work_from t s).made
-  made-from made = subst (λ k. v.made ≡ (work_of t k s.commands s.begin).made) same made
-
-  pub stats-from : (stats : Bool) → IsDeskOf t n s.commands s.begin v.desk → v.made ≡ (work_of t n s.commands s.begin).made →
-      stats_lines stats (work_in v) ≡ stats_lines stats (work_from t s)
-  stats-from stats desk made =
-      let d = desk-from desk in
-      stats-same stats (work_in v) (work_from t s) (made-from made) d.kept d.late
-
--- a script that was read and played
-module _ (t : Tables) (tree : Tree) (script : List ℕ) (s : Start) (reads : script_of tree script ≡ Ok s.commands) (begins : loaded tree ≡ Ok s.begin) where
-  pub is_start : start_of tree script s.capacity ≡ Ok s
-  is_start =
-      ap (λ r. and_then r (λ cs. and_then (loaded tree) (λ b. Ok (record { commands = cs; begin = b; capacity = s.capacity })))) reads
-      ∙ ap (λ r. and_then r (λ b. Ok (record { commands = s.commands; begin = b; capacity = s.capacity }))) begins
-
-  pub desk_of_start : {M : Type 0} (d : Desked Seen M) → IsDeskOf t s.capacity s.commands s.begin d → IsDeskOfStart t (start_of tree script s.capacity) (Some d)
-  desk_of_start d is = subst (λ r. IsDeskOfStart t r (Some d)) (sym is_start) is
-
-  pub made_from_start : made_by_start t (start_of tree script s.capacity) ≡ (work_from t s).made
-  made_from_start = ap (made_by_start t) is_start
-
-  pub is_out : (stats : Bool) (p : Played) (lines : List (List ℕ)) → played_from t s ≡ p →
-      lines ≡ map (line_text t p.state.names) p.lines ++ stats_lines stats (work_from t s) →
-      out_of_start t stats (start_of tree script s.capacity) ≡ out_of_lines p lines
+  pub is_out : (stats : Bool) (p : Played) (lines : List (List ℕ)) → played_from t s ≡ p → lines ≡ played_lines t stats s.bad p (work_from t s) →
+      out_of_start t stats (Ok s) ≡ out_of_fitting p (fitting lines)
   is_out stats p lines plays prints =
-      ap (out_of_start t stats) is_start ∙ ap (λ (q : Played). out_of_played t stats q (work_from t s)) plays ∙ ap (out_of_lines p) (sym prints)
+      ap (λ (q : Played). out_of_played t stats s.bad q (work_from t s)) plays ∙ ap (λ (ls : List (List ℕ)). out_of_fitting p (fitting ls)) (sym prints)
 
--- all lines are printed, or they are too large together
-pub small_output : (p : Played) (lines : List (List ℕ)) (o : Output) → o.lines ≡ lines → is_large lines ≡ false → IsOutput (Ok o) (out_of_lines p lines)
-small_output p lines o same small =
-    subst (IsOutput (Ok o)) (sym (ap (λ b. cond b (halted (halt.TooLarge limit.Text)) (done p lines)) small)) (refl, sym same, refl)
+-- a project that is loaded, over a cache for so many entries
+module _ (t : Tables) (tree : Tree) (commands : List Command) (capacity n : ℕ) (p : Project) (loads : loaded t tree ≡ Ok p) (room : n ≡ capacity) where
+  pub starts : start_of t tree capacity (Ok commands) ≡ Ok (start_with commands n p)
+  starts = ap (λ r. and_then r (λ q. Ok (start_with commands capacity q))) loads ∙ ap (λ k. Ok (start_with commands k p)) (sym room)
 
-pub large_output : (p : Played) (lines : List (List ℕ)) → is_large lines ≡ true → out_of_lines p lines ≡ halted (halt.TooLarge limit.Text)
-large_output p lines large = ap (λ b. cond b (halted (halt.TooLarge limit.Text)) (done p lines)) large
+  pub output-starts : (stats : Bool) (r : Result Output (Refusal Halt)) → IsOutput r (out_of_start t stats (Ok (start_with commands n p))) →
+      IsOutput r (out_of_start t stats (start_of t tree capacity (Ok commands)))
+  output-starts stats r is = subst (λ s. IsOutput r (out_of_start t stats s)) (sym starts) is
+
+  pub desk-starts : {M : Type 0} (d : Option (Desked Seen M)) → IsDeskOfStart t (Ok (start_with commands n p)) d → IsDeskOfStart t (start_of t tree capacity (Ok commands)) d
+  desk-starts d is = subst (λ s. IsDeskOfStart t s d) (sym starts) is
+
+  pub made-starts : made_by_start t (Ok (start_with commands n p)) ≡ made_by_start t (start_of t tree capacity (Ok commands))
+  made-starts = ap (made_by_start t) (sym starts)
+
+-- all lines are printed
+pub fit_output : (p : Played) (lines : List (List ℕ)) (o : Output) → fitting lines ≡ Ok o.lines → IsOutput (Ok o) (out_of_fitting p (fitting lines))
+fit_output p lines o fits = subst (λ (r : Result (List (List ℕ)) Halt). IsOutput (Ok o) (out_of_fitting p r)) (sym fits) (refl, refl, refl)
 
 pub ok-map : {X E : Type 0} (P Q : X → Type 0) (r : Result X E) → ((x : X) → P x → Q x) → IfOk r P → IfOk r Q
 ok-map P Q (Ok x) f p = f x p
 ok-map P Q (Err e) f p = tt
 
--- a file that was read and formatted
--- what is known of it, with no desk
-abbrev pub alone : Result (List (List ℕ)) (Refusal Halt) → Result Output (Refusal Halt)
-alone (Ok lines) = Ok (record { lines = lines; desk = None })
-alone (Err e) = Err e
-
-pub text_output : (r : Result (List (List ℕ)) (Refusal Halt)) (given : Result (List (List ℕ)) Halt) → Tells r given → IsOutput (alone r) (out_of_text given)
-text_output (Ok lines) given e = subst (λ g. IsOutput (alone (Ok lines)) (out_of_text g)) (sym e) (refl, refl, refl)
-text_output (Err refusal.NoMemory) given e = record {}
-text_output (Err (refusal.Because halt.FileFault)) given e = record {}
-text_output (Err (refusal.Because halt.NoInput)) given e = ap out_of_text e
-text_output (Err (refusal.Because (halt.BadLine line code))) given e = ap out_of_text e
-text_output (Err (refusal.Because (halt.BadFile line code))) given e = ap out_of_text e
-text_output (Err (refusal.Because halt.NotBuilt)) given e = ap out_of_text e
-text_output (Err (refusal.Because (halt.TooLarge what))) given e = ap out_of_text e
+-- lines that are printed alone
+pub alone_output : (r : Result (List (List ℕ)) (Refusal Halt)) (given : Result (List (List ℕ)) Halt) → Tells (λ ls. ls) r given → IsOutput (alone r) (out_of_text given)
+alone_output (Ok lines) given is = subst (λ g. IsOutput (alone (Ok lines)) (out_of_text g)) (sym is) (refl, refl, refl)
+alone_output (Err e) given is = told-out (λ (ls : List (List ℕ)). ls) out_of_text (λ _. refl) e given is

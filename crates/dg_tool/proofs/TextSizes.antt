@@ -1,11 +1,14 @@
 -- How many bytes lines have together.
-use Rattle.std.proofs.Common.{◌≡◌, ℕ, ◌+◌, ◌<◌, ◌≤◌, Bool, true, false, not, List, [], ◌∷◌, ◌++◌, map, take, drop, get_or, length, length-append, append_assoc, refl, sym, ap, ◌∙◌, arith}
+use Rattle.std.proofs.Common.{◌≡◌, ℕ, ◌+◌, ◌<◌, ◌≤◌, Bool, true, false, cond, Result, Ok, Err, subst, List, [], ◌∷◌, ◌++◌, map, take, drop, get_or, length, length-append, append_assoc, refl, sym, ap, ◌∙◌, arith}
 use Rattle.std.specs.Prelude.{nat_lt}
 use Rattle.std.proofs.lemmas.Bool.Decides.{nat_tests}
 use Rattle.std.proofs.lemmas.List.{append-nil, map-append, take-append-drop}
 use Rattle.std.proofs.lemmas.Grind.{take_at_read}
 use Rattle.dg_tool.specs.Text.{max_text, text_of}
-use Rattle.dg_tool.specs.Out.{is_large}
+use Rattle.dg_tool.specs.declared.halt.Halt.{Halt}
+use Rattle.dg_tool.specs.declared.halt.Halt.TheVariants as halt
+use Rattle.dg_tool.specs.declared.halt.Limit.TheVariants as limit
+use Rattle.dg_tool.specs.Out.{fitting, is_large}
 use Rattle.dg_tool.proofs.Sinks.{text_of-append}
 
 is_above : (n m : ℕ) → n < m → nat_lt n m ≡ true
@@ -45,6 +48,38 @@ larger ls ms is =
     let l = length-both ls ms in
     is_above max_text (length (text_of (ls ++ ms))) (omega (arith, lt, l))
 
+-- ---- lines that fit, and lines that don't
+
+abbrev IsLimit : {X : Type 0} → Result X Halt → Type 0
+IsLimit (Err (halt.TooLarge what)) = Unit {0}
+IsLimit _ = ⊥
+
+abbrev IsFitting : {X : Type 0} → Result X Halt → Type 0
+IsFitting (Ok x) = Unit {0}
+IsFitting (Err h) = ⊥
+
+pub fitting-small : (ls : List (List ℕ)) → is_large ls ≡ false → fitting ls ≡ Ok ls
+fitting-small ls small = ap (λ b. cond b (Err (halt.TooLarge limit.Text)) (Ok ls)) small
+
+pub fitting-large : (ls : List (List ℕ)) → is_large ls ≡ true → fitting ls ≡ Err (halt.TooLarge limit.Text)
+fitting-large ls large = ap (λ b. cond b (Err (halt.TooLarge limit.Text)) (Ok ls)) large
+
+-- where the first lines don't fit, all don't
+pub fitting-front : (ls ms : List (List ℕ)) (h : Halt) → fitting ls ≡ Err h → fitting (ls ++ ms) ≡ Err h
+fitting-front ls ms h is = by_size (is_large ls) refl
+  where
+    by_size : (b : Bool) → is_large ls ≡ b → fitting (ls ++ ms) ≡ Err h
+    by_size true large = fitting-large (ls ++ ms) (larger ls ms large) ∙ sym (fitting-large ls large) ∙ is
+    by_size false small = absurd (subst IsFitting (sym (fitting-small ls small) ∙ is) tt)
+
+-- and that is the limit of the text
+pub fitting-fault : (ls : List (List ℕ)) → fitting ls ≡ Err halt.FileFault → ⊥
+fitting-fault ls is = by_size (is_large ls) refl
+  where
+    by_size : (b : Bool) → is_large ls ≡ b → ⊥
+    by_size true large = absurd (subst IsLimit (sym (fitting-large ls large) ∙ is) tt)
+    by_size false small = absurd (subst IsFitting (sym (fitting-small ls small) ∙ is) tt)
+
 -- ---- the lines of a list, one after the other
 
 module _ {X : Type 0} (text : X → List ℕ) (xs : List X) where
@@ -52,14 +87,15 @@ module _ {X : Type 0} (text : X → List ℕ) (xs : List X) where
   next_line i x is lt =
       sym (map-append text (take i xs) (x ∷ [])) ∙ ap (map text) (sym ((take_at_read xs i x lt).1 ∙ ap (λ y. take i xs ++ y ∷ []) (sym is)))
 
-  -- where the first lines are too large, so are all
-  pub first_large : (n : ℕ) (more : List (List ℕ)) → is_large (map text (take n xs)) ≡ true → is_large (map text xs ++ more) ≡ true
-  first_large n more large =
-      let whole : map text (take n xs) ++ (map text (drop n xs) ++ more) ≡ map text xs ++ more =
-      sym (append_assoc (map text (take n xs)) (map text (drop n xs)) more)
-      ∙ ap (λ (ls : List (List ℕ)). ls ++ more) (sym (map-append text (take n xs) (drop n xs)) ∙ ap (map text) (take-append-drop n xs)) in
-      ap is_large (sym whole) ∙ larger (map text (take n xs)) (map text (drop n xs) ++ more) large
+  -- where the first lines don't fit behind others, all don't
+  pub first_unfit : (n : ℕ) (ls : List (List ℕ)) (h : Halt) → fitting (ls ++ map text (take n xs)) ≡ Err h → fitting (ls ++ map text xs) ≡ Err h
+  first_unfit n ls h is =
+      let whole : (ls ++ map text (take n xs)) ++ map text (drop n xs) ≡ ls ++ map text xs =
+      append_assoc ls (map text (take n xs)) (map text (drop n xs))
+      ∙ ap (λ (ms : List (List ℕ)). ls ++ ms) (sym (map-append text (take n xs) (drop n xs)) ∙ ap (map text) (take-append-drop n xs)) in
+      ap fitting (sym whole) ∙ fitting-front (ls ++ map text (take n xs)) (map text (drop n xs)) h is
 
-pub isnt-not : (b : Bool) → false ≡ not b → b ≡ true
-isnt-not true is = refl
-isnt-not false is = is
+  -- behind the lines before it, a line is one more
+  pub lines-behind : (i : ℕ) (x : X) (ls : List (List ℕ)) → x ≡ get_or xs i x → i < length xs →
+      (ls ++ map text (take i xs)) ++ text x ∷ [] ≡ ls ++ map text (take (i + 1) xs)
+  lines-behind i x ls is lt = append_assoc ls (map text (take i xs)) (text x ∷ []) ∙ ap (λ (ms : List (List ℕ)). ls ++ ms) (next_line i x is lt)

@@ -31,7 +31,11 @@ status_of halt.FileFault = status.FileFault
 abbrev pub limit_text : Limit → List ℕ
 limit_text limit.Script = codes "script"
 limit_text limit.Lines = codes "lines"
+limit_text limit.Files = codes "files"
 limit_text limit.File = codes "file"
+limit_text limit.Total = codes "total"
+limit_text limit.Nodes = codes "nodes"
+limit_text limit.Arcs = codes "arcs"
 limit_text limit.Text = codes "text"
 
 abbrev pub error_line : List ℕ → List ℕ

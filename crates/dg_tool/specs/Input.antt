@@ -1,10 +1,9 @@
--- What a run reads of the tree of files: the script, and the state that it begins with.
-use Rattle.std.specs.Prelude.{◌≡◌, ℕ, List, [], cond, nat_lt, Result, Ok, Err, length}
+-- What a run reads of the tree of files: the script, and the project that it begins with.
+use Rattle.std.specs.Prelude.{◌≡◌, ℕ, List, cond, nat_lt, Result, Ok, Err, length}
 use Rattle.dg_base.specs.declared.refusal.Refusal.{Refusal}
 use Rattle.dg_base.specs.declared.refusal.Refusal.TheVariants as refusal
 use Rattle.dg_base.specs.Refusal.{and_then}
-use Rattle.dg_base.specs.Graph.{empty}
-use Rattle.dg_base.specs.Transact.{Applied}
+use Rattle.dg_base.specs.Tables.{Tables}
 use Rattle.dg_files.specs.Tree.{Tree, bytes_at, got_of}
 use Rattle.dg_files.specs.declared.files.Got.{Got}
 use Rattle.dg_files.specs.declared.files.Got.TheVariants as got
@@ -15,9 +14,10 @@ use Rattle.dg_tool.specs.declared.halt.Halt.{Halt}
 use Rattle.dg_tool.specs.declared.halt.Halt.TheVariants as halt
 use Rattle.dg_tool.specs.declared.halt.Limit.{Limit}
 use Rattle.dg_tool.specs.declared.halt.Limit.TheVariants as limit
-use Rattle.dg_editor.specs.Machine.{begun}
+use Rattle.dg_sources.specs.declared.bad.BadPlace.{BadPlace}
 use Rattle.dg_play.specs.Play.{State}
 use Rattle.dg_tool.specs.Built.{are_built}
+use Rattle.dg_tool.specs.Project.{Project, loaded}
 
 -- a file has at most 1 MiB, and a script 65,536 lines
 abbrev pub max_script : ℕ
@@ -53,29 +53,23 @@ script_of tree path = and_then (and_then (bytes_of tree limit.Script path) comma
 
 -- what a call that reads files answers: what is given by the tree that they tell. Where a call of the
 -- files failed, or memory was refused, nothing is said
-abbrev pub Tells : {X : Type 0} → Result X (Refusal Halt) → Result X Halt → Type 0
-Tells (Ok x) given = given ≡ Ok x
-Tells (Err (refusal.Because halt.FileFault)) given = Unit {0}
-Tells (Err (refusal.Because h)) given = given ≡ Err h
-Tells (Err refusal.NoMemory) given = Unit {0}
+abbrev pub Tells : {X Y : Type 0} → (X → Y) → Result X (Refusal Halt) → Result Y Halt → Type 0
+Tells view (Ok x) given = given ≡ Ok (view x)
+Tells view (Err (refusal.Because halt.FileFault)) given = Unit {0}
+Tells view (Err (refusal.Because h)) given = given ≡ Err h
+Tells view (Err refusal.NoMemory) given = Unit {0}
 
--- what the script begins with: an editor over an empty graph, since nothing of the project is loaded yet
-abbrev pub nothing_loaded : Applied
-nothing_loaded = record { graph = empty; next = 1; made = []; touched = [] }
-
-abbrev pub begin_with : Applied → State
-begin_with a = record { editor = begun a; pins = []; bound = []; names = [] }
-
-abbrev pub loaded : Tree → Result State Halt
-loaded tree = Ok (begin_with nothing_loaded)
-
--- what a run starts with: the commands, the state before the first, and for how many entries the shared cache has
--- room
+-- what a run starts with: the commands, the state before the first, the bad places of the project, and for how many
+-- entries the shared cache has room
 pub record Start : Type 0 where
   pub commands : List Command
   pub begin : State
+  pub bad : List BadPlace
   pub capacity : ℕ
 
-abbrev pub start_of : Tree → List ℕ → ℕ → Result Start Halt
-start_of tree script capacity =
-    and_then (script_of tree script) (λ commands. and_then (loaded tree) (λ state. Ok (record { commands = commands; begin = state; capacity = capacity })))
+abbrev pub start_with : List Command → ℕ → Project → Start
+start_with commands capacity p = record { commands = commands; begin = p.begin; bad = p.bad; capacity = capacity }
+
+-- the script is read before the project
+abbrev pub start_of : Tables → Tree → ℕ → Result (List Command) Halt → Result Start Halt
+start_of t tree capacity script = and_then script (λ commands. and_then (loaded t tree) (λ p. Ok (start_with commands capacity p)))

@@ -2,7 +2,9 @@
 pub mod Text
 pub mod Halts
 pub mod Built
+pub mod Project
 pub mod Input
+pub mod Seen
 pub mod Format
 pub mod Out
 pub mod Printed

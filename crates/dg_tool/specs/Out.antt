@@ -4,8 +4,11 @@ use Rattle.std.specs.Prelude.{ℕ, List, [], ◌∷◌, ◌++◌, Bool, cond, na
 use Rattle.dg_base.specs.Tables.{Tables}
 use Rattle.dg_base.specs.Graph.{Graph, empty}
 use Rattle.dg_base.specs.Refusal.{and_then}
+use Rattle.dg_base.specs.declared.answer.Answer.{Answer}
+use Rattle.dg_base.specs.declared.answer.Answer.TheVariants as answer
 use Rattle.dg_base.specs.Value.{value_at}
 use Rattle.dg_files.specs.Tree.{File, Tree, written}
+use Rattle.dg_build.specs.Targets.{targets}
 use Rattle.dg_report.specs.Text.{answer_text}
 use Rattle.dg_tool.specs.declared.status.Status.{Status}
 use Rattle.dg_tool.specs.declared.status.Status.TheVariants as status
@@ -16,15 +19,17 @@ use Rattle.dg_words.specs.declared.task.Task.{Task}
 use Rattle.dg_words.specs.declared.task.Task.TheVariants.{Run, Check, Build, Gen, Format}
 use Rattle.dg_words.specs.declared.task.Usage.{Usage}
 use Rattle.dg_words.specs.Tasks.{task_in}
-use Rattle.dg_tool.specs.Text.{ok_text, empty_text, no_name_text, no_label_text, missing_text, code_text, refused_text, line_full_text, nothing_to_undo_text, nothing_to_redo_text, pin_used_text, pins_full_text, pinned_text, no_pin_text, not_built_text, stats_text, max_text, line_of, text_of}
+use Rattle.dg_tool.specs.Text.{ok_text, empty_text, no_name_text, no_label_text, missing_text, code_text, refused_text, bad_place_text, size_text, line_full_text, nothing_to_undo_text, nothing_to_redo_text, pin_used_text, pins_full_text, pinned_text, no_pin_text, built_files_text, stats_text, max_text, line_of, text_of}
 use Rattle.dg_tool.specs.Halts.{status_of, halt_lines, error_line}
 use Rattle.dg_line.specs.Revisions.{Seen}
 use Rattle.dg_editor.specs.Machine.{revisions}
 use Rattle.dg_play.specs.Asks.{Ask}
-use Rattle.dg_play.specs.Play.{Reply, Done, Empty, LineFull, NothingToUndo, NothingToRedo, NoName, NoLabel, Misses, Refused, PinUsed, PinsFull, PinnedAt, NoPin, NotBuilt, Answers, Line, Played, graph_now, played}
+use Rattle.dg_play.specs.Play.{Reply, Done, Empty, LineFull, NothingToUndo, NothingToRedo, NoName, NoLabel, Misses, Refused, PinUsed, PinsFull, PinnedAt, NoPin, Answers, Builds, Line, Played, graph_now, played}
 use Rattle.dg_play.specs.Work.{Work, work_of}
 use Rattle.dg_play.specs.Desk.{answers_in}
-use Rattle.dg_tool.specs.Input.{Start, start_of}
+use Rattle.dg_sources.specs.declared.bad.BadPlace.{BadPlace}
+use Rattle.dg_tool.specs.Project.{Project, loaded}
+use Rattle.dg_tool.specs.Input.{Start, script_of, start_of}
 use Rattle.dg_tool.specs.Format.{formatted_in}
 
 -- all that a run does: its status, the lines that it prints, the files that it writes, each with the
@@ -54,6 +59,11 @@ usage = record { status = status.Usage; lines = error_line (codes "usage") ∷ [
 abbrev pub ask_text : Tables → List (List ℕ) → Ask → List ℕ
 ask_text t names a = answer_text (value_at t a.revision.graph a.at) names
 
+-- the text of a build: how many files a good value is built as, else the answer
+abbrev pub built_text : Answer → List (List ℕ) → List ℕ
+built_text (answer.Good d) names = built_files_text (length (targets d names))
+built_text a names = answer_text a names
+
 abbrev pub reply_text : Tables → List (List ℕ) → Reply → List ℕ
 reply_text t names Done = ok_text
 reply_text t names Empty = empty_text
@@ -68,8 +78,8 @@ reply_text t names PinUsed = pin_used_text
 reply_text t names PinsFull = pins_full_text
 reply_text t names (PinnedAt number) = pinned_text number
 reply_text t names NoPin = no_pin_text
-reply_text t names NotBuilt = not_built_text
 reply_text t names (Answers a) = ask_text t names a
+reply_text t names (Builds a) = built_text (value_at t a.revision.graph a.at) names
 
 abbrev pub line_text : Tables → List (List ℕ) → Line → List ℕ
 line_text t names line = line_of line.number (reply_text t names line.reply)
@@ -92,13 +102,28 @@ done p lines = record {
   asks = answers_in p.lines;
 }
 
-abbrev pub out_of_lines : Played → List (List ℕ) → Out
-out_of_lines p lines = cond (is_large lines) (halted (halt.TooLarge limit.Text)) (done p lines)
+-- all lines, where they aren't too large together
+abbrev pub fitting : List (List ℕ) → Result (List (List ℕ)) Halt
+fitting lines = cond (is_large lines) (Err (halt.TooLarge limit.Text)) (Ok lines)
+
+abbrev pub out_of_fitting : Played → Result (List (List ℕ)) Halt → Out
+out_of_fitting p (Ok lines) = done p lines
+out_of_fitting p (Err h) = halted h
+
+-- a line for each bad place of the project
+abbrev pub bad_line : BadPlace → List ℕ
+bad_line p = bad_place_text p ++ 10 ∷ []
+
+abbrev pub bad_lines : List BadPlace → List (List ℕ)
+bad_lines bad = map bad_line bad
 
 -- a script that was played. Its lines are printed with the names of the end: a label's name, once given,
 -- never changes, and what is in a graph was named before
-abbrev pub out_of_played : Tables → Bool → Played → Work → Out
-out_of_played t stats p w = out_of_lines p (map (line_text t p.state.names) p.lines ++ stats_lines stats w)
+abbrev pub played_lines : Tables → Bool → List BadPlace → Played → Work → List (List ℕ)
+played_lines t stats bad p w = bad_lines bad ++ (map (line_text t p.state.names) p.lines ++ stats_lines stats w)
+
+abbrev pub out_of_played : Tables → Bool → List BadPlace → Played → Work → Out
+out_of_played t stats bad p w = out_of_fitting p (fitting (played_lines t stats bad p w))
 
 abbrev pub played_from : Tables → Start → Played
 played_from t s = played t s.commands s.begin
@@ -107,7 +132,7 @@ abbrev pub work_from : Tables → Start → Work
 work_from t s = work_of t s.capacity s.commands s.begin
 
 abbrev pub out_of_start : Tables → Bool → Result Start Halt → Out
-out_of_start t stats (Ok s) = out_of_played t stats (played_from t s) (work_from t s)
+out_of_start t stats (Ok s) = out_of_played t stats s.bad (played_from t s) (work_from t s)
 out_of_start t stats (Err h) = halted h
 
 -- a file that is formatted: its text, and nothing else is done
@@ -118,12 +143,21 @@ abbrev pub out_of_text : Result (List (List ℕ)) Halt → Out
 out_of_text (Ok lines) = printed_alone lines
 out_of_text (Err h) = halted h
 
--- a script is played without workers, whatever their number. The project isn't loaded yet, so nothing of it is checked
--- or built, and none is made
+-- a project that is checked: its bad places, and what it has
+abbrev pub size_line : Graph → ℕ → List ℕ
+size_line g bad = size_text (length g.nodes) (length g.arcs) bad ++ 10 ∷ []
+
+abbrev pub checked_lines : Project → List (List ℕ)
+checked_lines p = bad_lines p.bad ++ size_line (graph_now p.begin) (length p.bad) ∷ []
+
+abbrev pub checked : Tables → Tree → Result (List (List ℕ)) Halt
+checked t tree = and_then (loaded t tree) (λ p. fitting (checked_lines p))
+
+-- a script is played without workers, whatever their number. Nothing is built yet, and no project is made
 abbrev pub out_of_task : Tables → Tree → Task → Out
-out_of_task t tree (Run script workers cache stats) = out_of_start t stats (start_of tree script cache)
+out_of_task t tree (Run script workers cache stats) = out_of_start t stats (start_of t tree cache (script_of tree script))
 out_of_task t tree (Format path) = out_of_text (formatted_in tree path)
-out_of_task t tree Check = halted halt.NotBuilt
+out_of_task t tree Check = out_of_text (checked t tree)
 out_of_task t tree (Build path workers) = halted halt.NotBuilt
 out_of_task t tree (Gen seed size workers cache) = halted halt.NotBuilt
 

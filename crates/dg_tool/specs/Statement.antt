@@ -18,7 +18,7 @@ use Rattle.dg_line.specs.Revisions.{Seen}
 use Rattle.dg_desk.specs.Desks.{Desked}
 use Rattle.dg_play.specs.Desk.{IsDeskOf}
 use Rattle.dg_tool.specs.declared.output.Output.{Output}
-use Rattle.dg_tool.specs.Input.{Start, start_of}
+use Rattle.dg_tool.specs.Input.{Start, script_of, start_of}
 use Rattle.dg_tool.specs.Out.{Out, all_written, halted, work_from}
 use Rattle.dg_tool.specs.Printed.{GotAll, GotPrefix}
 
@@ -62,7 +62,7 @@ IsDeskOfStart t _ _ = ⊥
 
 -- a task that plays nothing has none
 abbrev pub IsDeskOfTask : {M : Type 0} → Tables → Tree → Task → Option (Desked Seen M) → Type 0
-IsDeskOfTask t tree (Run script workers cache stats) desk = IsDeskOfStart t (start_of tree script cache) desk
+IsDeskOfTask t tree (Run script workers cache stats) desk = IsDeskOfStart t (start_of t tree cache (script_of tree script)) desk
 IsDeskOfTask t tree _ desk = desk ≡ None
 
 abbrev pub IsDeskOfWords : {M : Type 0} → Tables → Tree → Result Task Usage → Option (Desked Seen M) → Type 0
@@ -75,7 +75,7 @@ made_by_start t (Ok s) = (work_from t s).made
 made_by_start t (Err h) = 0
 
 abbrev pub made_by_task : Tables → Tree → Task → ℕ
-made_by_task t tree (Run script workers cache stats) = made_by_start t (start_of tree script cache)
+made_by_task t tree (Run script workers cache stats) = made_by_start t (start_of t tree cache (script_of tree script))
 made_by_task t tree _ = 0
 
 abbrev pub made_by_words : Tables → Tree → Result Task Usage → ℕ
@@ -90,6 +90,11 @@ IsOutput (Ok o) due = (due.status ≡ status.Done) × (due.lines ≡ o.lines) ×
 IsOutput (Err (refusal.Because halt.FileFault)) due = Unit {0}
 IsOutput (Err (refusal.Because h)) due = due ≡ halted h
 IsOutput (Err refusal.NoMemory) due = Unit {0}
+
+-- lines that are printed of a task that plays nothing
+abbrev pub alone : Result (List (List ℕ)) (Refusal Halt) → Result Output (Refusal Halt)
+alone (Ok lines) = Ok (record { lines = lines; desk = None })
+alone (Err e) = Err e
 
 -- what a put of all lines ends with: the status that is due and all of them, or a fault of the sink or
 -- want of memory and a first part

@@ -7,8 +7,9 @@ use Rattle.dg_bind.specs.declared.refusal.Missing.{Missing}
 use Rattle.dg_bind.specs.declared.refusal.Missing.TheVariants as missing
 use Rattle.dg_script.specs.declared.command.ScriptCode.{ScriptCode}
 use Rattle.dg_script.specs.declared.command.ScriptCode.TheVariants as bad
-use Rattle.dg_tool.specs.declared.halt.FileCode.{FileCode}
-use Rattle.dg_tool.specs.declared.halt.FileCode.TheVariants as file
+use Rattle.dg_sources.specs.declared.bad.BadCode.{BadCode}
+use Rattle.dg_sources.specs.declared.bad.BadCode.TheVariants as place
+use Rattle.dg_sources.specs.declared.bad.BadPlace.{BadPlace}
 
 abbrev pub ok_text : List ℕ
 ok_text = codes "ok"
@@ -48,9 +49,9 @@ no_pin_text = codes "NoPin"
 abbrev pub stats_text : ℕ → ℕ → ℕ → List ℕ
 stats_text made kept late = codes "work " ++ decimal made ++ codes " kept " ++ decimal kept ++ codes " late " ++ decimal late
 
--- a command that isn't played yet
-abbrev pub not_built_text : List ℕ
-not_built_text = codes "not built"
+-- how many files were written
+abbrev pub built_files_text : ℕ → List ℕ
+built_files_text count = codes "built " ++ decimal count
 
 -- why a transaction is refused
 abbrev pub missing_text : Missing → List ℕ
@@ -86,17 +87,30 @@ bad_code_text bad.OpenBlock = codes "OpenBlock"
 abbrev pub bad_line_text : ℕ → ScriptCode → List ℕ
 bad_line_text line c = codes "script line " ++ decimal line ++ codes " " ++ bad_code_text c
 
-abbrev pub file_code_text : FileCode → List ℕ
-file_code_text file.Utf8 = codes "Utf8"
-file_code_text file.Token = codes "Token"
-file_code_text file.Nesting = codes "Nesting"
-file_code_text file.Unclosed = codes "Unclosed"
-file_code_text file.Missing = codes "Missing"
-file_code_text file.Form = codes "Form"
+-- what is wrong at a place of a file
+abbrev pub place_code_text : BadCode → List ℕ
+place_code_text place.Gone = codes "Gone"
+place_code_text place.Utf8 = codes "Utf8"
+place_code_text place.Token = codes "Token"
+place_code_text place.Nesting = codes "Nesting"
+place_code_text place.Unclosed = codes "Unclosed"
+place_code_text place.Missing = codes "Missing"
+place_code_text place.Form = codes "Form"
+place_code_text place.Absent = codes "Absent"
+place_code_text place.Data = codes "Data"
+place_code_text place.Recursive = codes "Recursive"
 
--- a bad place of a file
-abbrev pub bad_file_text : ℕ → FileCode → List ℕ
-bad_file_text line c = codes "file line " ++ decimal line ++ codes " " ++ file_code_text c
+-- the file that is formatted, by its first bad place
+abbrev pub bad_file_text : ℕ → BadCode → List ℕ
+bad_file_text line c = codes "file line " ++ decimal line ++ codes " " ++ place_code_text c
+
+-- a bad place of a project
+abbrev pub bad_place_text : BadPlace → List ℕ
+bad_place_text p = codes "bad " ++ p.path ++ codes " " ++ decimal p.line ++ codes " " ++ place_code_text p.code
+
+-- what a project has: its nodes, its arcs and its bad places
+abbrev pub size_text : ℕ → ℕ → ℕ → List ℕ
+size_text nodes arcs bad = codes "nodes " ++ decimal nodes ++ codes " arcs " ++ decimal arcs ++ codes " bad " ++ decimal bad
 
 -- all that is printed has at most 256 MiB, line feeds included
 abbrev pub max_text : ℕ

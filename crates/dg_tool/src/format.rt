@@ -3,16 +3,17 @@ ghost use Rattle.std.specs.Prelude.{◌≡◌, ◌≤◌, IfOk, IfSome, IsErrOf}
 ghost use Rattle.dg_base.specs.Refusal.{Gives};
 ghost use Rattle.dg_files.specs.Outcome.{Rose, StaysSound};
 ghost use Rattle.dg_tool.specs.Input.{Tells};
-ghost use Rattle.dg_tool.specs.Format.{canonical, canonical_coll, canonical_go, cut, desc_halt, fitting, formatted, formatted_in, text_halt};
+ghost use Rattle.dg_tool.specs.Format.{cut, fitting_text, formatted, formatted_coll, formatted_go, formatted_in};
 
-use crate::halt::{FileCode, Halt, Limit};
+use crate::halt::{Halt, Limit};
 use crate::input::bytes_of;
 use crate::size::MAX_TEXT;
 use crate::text::Lines;
 use dg_base::Refusal;
-use dg_desc::{DescCode, coll_tree, go_tree, read_coll, read_go};
+use dg_desc::{coll_tree, go_tree};
 use dg_files::{Bytes, Files};
-use dg_ptext::{TextCode, Tree, print_tree, read_tree};
+use dg_ptext::print_tree;
+use dg_sources::{Unread, read_collection, read_object};
 use dg_text::ends_in;
 use std::alloc::{AllocError, Global};
 use std::mem;
@@ -26,7 +27,7 @@ pub(crate) fn formatted_in<F: Files>(
     files: &mut F,
     path: &str,
 ) -> Result<Lines, Refusal<Halt>>
-    ensures told { IfSome (F.tree files.old) (λ t. Tells result (formatted_in t path.now)) }
+    ensures told { IfSome (F.tree files.old) (λ t. Tells (λ ls. ls) result (formatted_in t path.now)) }
     ensures tree { F.tree files.new ≡ F.tree files.old }
     ensures never_falls { F.faults files.old ≤ F.faults files.new }
     ensures cause { IsErrOf result (Refusal.Because Halt.FileFault) → Rose (F.faults files.old) (F.faults files.new) }
@@ -34,12 +35,12 @@ pub(crate) fn formatted_in<F: Files>(
 {
     let bytes = bytes_of(alloc, files, path, Limit::File)?;
     let text = formatted(alloc, path, bytes.as_slice())?;
-    fitting(alloc, text.as_slice())
+    fitting_text(alloc, text.as_slice())
 }
 
 // The lines of a text, where all of it is printed.
-fn fitting(alloc: Global, text: &[u8]) -> Result<Lines, Refusal<Halt>>
-    ensures { Gives (λ lines. lines) result (fitting text.now) }
+fn fitting_text(alloc: Global, text: &[u8]) -> Result<Lines, Refusal<Halt>>
+    ensures { Gives (λ lines. lines) result (fitting_text text.now) }
 {
     if text.len() > MAX_TEXT {
         Err(Refusal::Because(Halt::TooLarge(Limit::Text)))
@@ -52,81 +53,38 @@ fn fitting(alloc: Global, text: &[u8]) -> Result<Lines, Refusal<Halt>>
 fn formatted(alloc: Global, path: &str, bytes: &[u8]) -> Result<dg_ptext::Bytes, Refusal<Halt>>
     ensures { Gives (λ text. text) result (formatted path.now bytes.now) }
 {
-    let tree = match read_tree(alloc, bytes) {
-        Ok(tree) => tree,
-        Err(Refusal::Because(code)) => return Err(Refusal::Because(text_halt(code))),
-        Err(Refusal::NoMemory) => return Err(Refusal::NoMemory),
-    };
-    let canonical = canonical(alloc, ends_in(path, GAME_OBJECT), &tree)?;
-    Ok(print_tree(alloc, &canonical)?)
-}
-
-fn canonical(alloc: Global, is_go: bool, tree: &Tree) -> Result<Tree, Refusal<Halt>>
-    ensures { Gives (λ tree. tree) result (canonical is_go tree.now) }
-{
-    if is_go {
-        canonical_go(alloc, tree)
+    if ends_in(path, GAME_OBJECT) {
+        formatted_go(alloc, bytes)
     } else {
-        canonical_coll(alloc, tree)
+        formatted_coll(alloc, bytes)
     }
 }
 
-fn canonical_go(alloc: Global, tree: &Tree) -> Result<Tree, Refusal<Halt>>
-    ensures { Gives (λ tree. tree) result (canonical_go tree.now) }
+fn formatted_go(alloc: Global, bytes: &[u8]) -> Result<dg_ptext::Bytes, Refusal<Halt>>
+    ensures { Gives (λ text. text) result (formatted_go bytes.now) }
 {
-    match read_go(alloc, tree) {
-        Ok(desc) => Ok(go_tree(alloc, &desc)?),
-        Err(Refusal::Because(code)) => Err(Refusal::Because(desc_halt(code))),
-        Err(Refusal::NoMemory) => Err(Refusal::NoMemory),
+    match read_object(alloc, bytes)? {
+        Ok(desc) => Ok(print_tree(alloc, &go_tree(alloc, &desc)?)?),
+        Err(unread) => Err(bad_file(unread)),
     }
 }
 
-fn canonical_coll(alloc: Global, tree: &Tree) -> Result<Tree, Refusal<Halt>>
-    ensures { Gives (λ tree. tree) result (canonical_coll tree.now) }
+fn formatted_coll(alloc: Global, bytes: &[u8]) -> Result<dg_ptext::Bytes, Refusal<Halt>>
+    ensures { Gives (λ text. text) result (formatted_coll bytes.now) }
 {
-    match read_coll(alloc, tree) {
-        Ok(desc) => Ok(coll_tree(alloc, &desc)?),
-        Err(Refusal::Because(code)) => Err(Refusal::Because(desc_halt(code))),
-        Err(Refusal::NoMemory) => Err(Refusal::NoMemory),
+    match read_collection(alloc, bytes)? {
+        Ok(desc) => Ok(print_tree(alloc, &coll_tree(alloc, &desc)?)?),
+        Err(unread) => Err(bad_file(unread)),
     }
 }
 
-fn text_halt(code: TextCode) -> Halt
-    ensures { result ≡ text_halt code }
+fn bad_file(unread: Unread) -> Refusal<Halt>
+    ensures { result ≡ Refusal.Because (Halt.BadFile unread.line unread.code) }
 {
-    match code {
-        TextCode::Utf8 => Halt::BadFile {
-            line: 0,
-            code: FileCode::Utf8,
-        },
-        TextCode::Token { line } => Halt::BadFile {
-            line,
-            code: FileCode::Token,
-        },
-        TextCode::Nesting { line } => Halt::BadFile {
-            line,
-            code: FileCode::Nesting,
-        },
-        TextCode::Unclosed { line } => Halt::BadFile {
-            line,
-            code: FileCode::Unclosed,
-        },
-    }
-}
-
-fn desc_halt(code: DescCode) -> Halt
-    ensures { result ≡ desc_halt code }
-{
-    match code {
-        DescCode::Missing { line, .. } => Halt::BadFile {
-            line,
-            code: FileCode::Missing,
-        },
-        DescCode::Form { line, .. } => Halt::BadFile {
-            line,
-            code: FileCode::Form,
-        },
-    }
+    Refusal::Because(Halt::BadFile {
+        line: unread.line,
+        code: unread.code,
+    })
 }
 
 // The lines of a text, each with its line feed.

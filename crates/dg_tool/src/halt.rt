@@ -5,27 +5,28 @@ ghost use Rattle.dg_tool.specs.Halts.{status_of, halt_lines};
 use crate::status::Status;
 use crate::text::{self, Lines};
 use dg_script::ScriptCode;
+use dg_sources::BadCode;
 use std::alloc::{AllocError, Global};
 
 /// What is too large.
 #[derive(Clone, Copy, PartialEq, Eq, Debug)]
 pub enum Limit {
+    /// The bytes of a script.
     Script,
+    /// Its lines.
     Lines,
+    /// The paths that are listed, or the files of a project that are read.
+    Files,
+    /// The bytes of a file.
     File,
+    /// The bytes of all files of a project.
+    Total,
+    /// The nodes of a project.
+    Nodes,
+    /// The arcs of a project.
+    Arcs,
+    /// The bytes of all lines that are printed.
     Text,
-}
-
-/// Why a file can't be formatted.
-#[derive(Clone, Copy, PartialEq, Eq, Debug)]
-pub enum FileCode {
-    /// The bytes aren't UTF-8. The line is 0.
-    Utf8,
-    Token,
-    Nesting,
-    Unclosed,
-    Missing,
-    Form,
 }
 
 /// Why a run ends before a line of its script is put, beside want of memory.
@@ -34,7 +35,7 @@ pub enum Halt {
     NoInput,
     BadLine { line: u32, code: ScriptCode },
     /// The file can't be read: the line of the first place that can't go on, and why.
-    BadFile { line: u32, code: FileCode },
+    BadFile { line: u32, code: BadCode },
     NotBuilt,
     TooLarge(Limit),
     FileFault,

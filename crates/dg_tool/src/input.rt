@@ -1,20 +1,16 @@
-//! What a run reads of the files: the script, and the state that it begins with.
+//! The script that a run reads.
 ghost use Rattle.std.specs.Prelude.{◌≡◌, ◌≤◌, IfOk, IfSome, IsErrOf};
 ghost use Rattle.dg_base.specs.Refusal.{Gives};
 ghost use Rattle.dg_files.specs.Outcome.{Rose, StaysSound};
-ghost use Rattle.dg_tool.specs.Input.{Tells, begin_with, built, bytes_of, commands_in, nothing_loaded, script_of};
-ghost use Rattle.dg_play.specs.Desk.{IsBegun};
-ghost use Rattle.dg_play.specs.Seen.{state_of};
-ghost use Rattle.dg_play.specs.States.{IsPlayed};
+ghost use Rattle.dg_tool.specs.Input.{Tells, built, bytes_of, commands_in, script_of};
 
 use crate::built::are_built;
 use crate::halt::{Halt, Limit};
 use crate::size::{MAX_LINES, MAX_SCRIPT, line_count};
 use dg_base::Refusal;
 use dg_files::{Bytes, Files, Got};
-use dg_play::State;
 use dg_script::{Script, read_script};
-use std::alloc::{AllocError, Global};
+use std::alloc::Global;
 
 /// The bytes of a file, of which there are at most 1 MiB. The files are read and nothing else.
 pub(crate) fn bytes_of<F: Files>(
@@ -23,7 +19,7 @@ pub(crate) fn bytes_of<F: Files>(
     path: &str,
     limit: Limit,
 ) -> Result<Bytes, Refusal<Halt>>
-    ensures told { IfSome (F.tree files.old) (λ t. Tells result (bytes_of t limit path.now)) }
+    ensures told { IfSome (F.tree files.old) (λ t. Tells (λ b. b) result (bytes_of t limit path.now)) }
     ensures tree { F.tree files.new ≡ F.tree files.old }
     ensures never_falls { F.faults files.old ≤ F.faults files.new }
     ensures cause { IsErrOf result (Refusal.Because Halt.FileFault) → Rose (F.faults files.old) (F.faults files.new) }
@@ -44,7 +40,7 @@ pub(crate) fn script_of<F: Files>(
     files: &mut F,
     path: &str,
 ) -> Result<Script, Refusal<Halt>>
-    ensures told { IfSome (F.tree files.old) (λ t. Tells result (script_of t path.now)) }
+    ensures told { IfSome (F.tree files.old) (λ t. Tells (λ commands. commands) result (script_of t path.now)) }
     ensures tree { F.tree files.new ≡ F.tree files.old }
     ensures never_falls { F.faults files.old ≤ F.faults files.new }
     ensures cause { IsErrOf result (Refusal.Because Halt.FileFault) → Rose (F.faults files.old) (F.faults files.new) }
@@ -80,20 +76,5 @@ fn built(commands: Script) -> Result<Script, Refusal<Halt>>
         Ok(commands)
     } else {
         Err(Refusal::Because(Halt::NotBuilt))
-    }
-}
-
-/// The state that a script begins with, with a cache for so many entries. Nothing of the project is loaded yet.
-pub(crate) fn loaded(alloc: Global, capacity: u32) -> Result<State, AllocError>
-    requires { 1 ≤ capacity }
-    ensures state { IfOk result (λ s. state_of s ≡ begin_with nothing_loaded) }
-    ensures begun { IfOk result (λ s. IsBegun s.world) }
-    ensures capacity { IfOk result (λ s. s.world.desk.capacity ≡ capacity) }
-    ensures played { IfOk result (λ s. IsPlayed s) }
-{
-    match State::open(alloc, &[], capacity) {
-        Ok((state, _made)) => Ok(state),
-        Err(Refusal::Because(_)) => unreachable!(),
-        Err(Refusal::NoMemory) => Err(AllocError),
     }
 }

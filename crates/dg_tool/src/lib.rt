@@ -5,7 +5,8 @@
 //! `specs/Statement` says what a run leaves.
 //!
 //! In reading order: `status` how a run ends and `halt` what ends it before a line is put; `size` counts a script's
-//! lines, `built` tells what is played yet, and `input` reads the script; `format` formats a file; `text` has the
+//! lines, `built` tells what is played yet, `project` loads the project, and `input` reads what a run starts with; `format` formats a
+//! file; `text` has the
 //! printed texts, `page` the lines that fit, and `lines` is the last pass, which prints all lines; `output` is all that
 //! is known before the first put, `printing` puts lines, and `run` is the top call.
 //! [`worked`] states cases that the checker computes.
@@ -21,6 +22,9 @@ mod lines;
 mod output;
 mod page;
 mod printing;
+mod project;
+#[cfg(test)]
+mod projects;
 mod run;
 mod size;
 mod status;

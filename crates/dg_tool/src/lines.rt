@@ -1,40 +1,80 @@
-//! The last pass: the lines of a script that was played.
+//! The last pass: the lines that are printed.
 ghost use Rattle.std.specs.Prelude.{◌≡◌, ◌++◌, map, IfOk, OnOk};
 ghost use Rattle.std.specs.Option.{option_to_list};
 ghost use Rattle.dg_kinds_coll.specs.Defold.{defold_tables};
-ghost use Rattle.dg_tool.specs.Out.{line_text, reply_text};
+ghost use Rattle.dg_base.specs.Refusal.{Gives};
 ghost use Rattle.dg_play.specs.Seen.{line_of, reply_of};
-ghost use Rattle.dg_tool.specs.Printed.{IsPrinted};
+ghost use Rattle.dg_tool.specs.Out.{bad_lines, built_text, checked_lines, fitting, line_text, reply_text};
+ghost use Rattle.dg_tool.specs.Seen.{seen_project};
 
+use crate::halt::Halt;
 use crate::page::Page;
+use crate::project::Project;
 use crate::text::{self, Lines};
-use dg_base::Names;
+use dg_base::{Answer, Names, Refusal};
+use dg_build::targets;
 use dg_files::Bytes;
 use dg_play::{Line, Reply};
 use dg_report::put_answer;
+use dg_sources::BadPlace;
 use itoa::Buffer;
 use std::alloc::{AllocError, Global};
 
-/// The texts of the lines, and a last one, or None where together they have more bytes than are printed. No line is kept
-/// behind the one with which the text gets too large.
+/// The lines of a script that was played: those of its project's bad places, those of its commands, and a last one.
+/// Refused where together they have more bytes than are printed; no line is made behind that with which they do.
 pub(crate) fn printed(
     alloc: Global,
+    bad: &[BadPlace],
     lines: &[Line],
     names: &Names,
     last: Option<Bytes>,
-) -> Result<Option<Lines>, AllocError>
-    ensures { IfOk result (λ r. IsPrinted r (map (λ l. line_text defold_tables names.now (line_of l)) lines.now ++ option_to_list last)) }
+) -> Result<Lines, Refusal<Halt>>
+    ensures { Gives (λ ls. ls) result
+        (fitting (bad_lines bad.now ++ (map (λ l. line_text defold_tables names.now (line_of l)) lines.now ++ option_to_list last))) }
 {
     let mut page = Page::new(alloc);
+    put_bad(alloc, &mut page, bad)?;
+    put_played(alloc, &mut page, lines, names)?;
+    page.put_some(last)?;
+    Ok(page.into_lines())
+}
+
+/// The lines of a project that is checked: those of its bad places, and one on what it has.
+pub(crate) fn checked(alloc: Global, project: &Project) -> Result<Lines, Refusal<Halt>>
+    ensures { Gives (λ ls. ls) result (fitting (checked_lines (seen_project project.now))) }
+{
+    let bad = project.bad.as_slice();
+    let graph = project.begin.world.now().revision().graph();
+    let size = text::size_line(alloc, graph.node_count(), graph.arc_count(), bad.len())?;
+    let mut page = Page::new(alloc);
+    put_bad(alloc, &mut page, bad)?;
+    page.put(size)?;
+    Ok(page.into_lines())
+}
+
+fn put_bad(alloc: Global, page: &mut Page, bad: &[BadPlace]) -> Result<(), Refusal<Halt>>
+    ensures { Gives (λ _. page.new) result (fitting (page.old ++ bad_lines bad.now)) }
+{
+    for place in bad {
+        page.put(text::bad_place(alloc, place)?)?;
+    }
+    page.is_fitting();
+    Ok(())
+}
+
+fn put_played(
+    alloc: Global,
+    page: &mut Page,
+    lines: &[Line],
+    names: &Names,
+) -> Result<(), Refusal<Halt>>
+    ensures { Gives (λ _. page.new) result (fitting (page.old ++ map (λ l. line_text defold_tables names.now (line_of l)) lines.now)) }
+{
     for line in lines {
-        if !page.put(line_text(alloc, line, names)?)? {
-            return Ok(None);
-        }
+        page.put(line_text(alloc, line, names)?)?;
     }
-    if !page.put_some(last)? {
-        return Ok(None);
-    }
-    Ok(Some(page.into_lines()))
+    page.is_fitting();
+    Ok(())
 }
 
 /// A line: the number of the script's line, a colon, a blank, the text of its reply and a line feed.
@@ -43,12 +83,17 @@ fn line_text(alloc: Global, line: &Line, names: &Names) -> Result<Bytes, AllocEr
 {
     let mut out = Vec::from_slice(alloc, Buffer::new().format(line.number).as_bytes())?;
     out.extend_from_slice(b": ")?;
-    put_reply(&mut out, &line.reply, names)?;
+    put_reply(alloc, &mut out, &line.reply, names)?;
     out.extend_from_slice(b"\n")?;
     Ok(Bytes::from_vec(out))
 }
 
-fn put_reply(out: &mut Vec<u8>, reply: &Reply, names: &Names) -> Result<(), AllocError>
+fn put_reply(
+    alloc: Global,
+    out: &mut Vec<u8>,
+    reply: &Reply,
+    names: &Names,
+) -> Result<(), AllocError>
     ensures { OnOk result (out.new.items ≡ out.old.items ++ reply_text defold_tables names.now (reply_of reply.now)) }
 {
     match reply {
@@ -67,7 +112,22 @@ fn put_reply(out: &mut Vec<u8>, reply: &Reply, names: &Names) -> Result<(), Allo
         Reply::PinsFull => out.extend_from_slice(b"PinsFull"),
         Reply::PinnedAt { number } => text::put_pinned(out, *number),
         Reply::NoPin => out.extend_from_slice(b"NoPin"),
-        Reply::NotBuilt => out.extend_from_slice(b"not built"),
         Reply::Answers(answered) => put_answer(out, answered.value().answer(), names),
+        Reply::Builds(answered) => put_built(alloc, out, answered.value().answer(), names),
+    }
+}
+
+// How many files a good value is built as, else the answer.
+fn put_built(
+    alloc: Global,
+    out: &mut Vec<u8>,
+    answer: &Answer,
+    names: &Names,
+) -> Result<(), AllocError>
+    ensures { OnOk result (out.new.items ≡ out.old.items ++ built_text answer.now names.now) }
+{
+    match answer {
+        Answer::Good(value) => text::put_built(out, targets(alloc, value, names)?.len()),
+        Answer::Bad(_) | Answer::Cycle => put_answer(out, answer, names),
     }
 }

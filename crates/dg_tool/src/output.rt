@@ -1,23 +1,27 @@
 //! What a run has to print, before any of it is put, and what it leaves.
-ghost use Rattle.std.specs.Prelude.{◌≡◌, ◌≤◌, ◌+◌, ◌++◌, map, Some, IfOk, IfSome, IsErrOf};
+ghost use Rattle.std.specs.Prelude.{◌≡◌, ◌≤◌, ◌+◌, ◌++◌, map, Some, Ok, IfOk, IfSome, IsErrOf};
 ghost use Rattle.std.specs.Option.{option_to_list};
 ghost use Rattle.dg_files.specs.Outcome.{Rose, StaysSound};
 ghost use Rattle.dg_kinds_coll.specs.Defold.{defold_tables};
 ghost use Rattle.dg_play.specs.Desk.{work_in};
 ghost use Rattle.dg_play.specs.Seen.{line_of, state_of};
-ghost use Rattle.dg_tool.specs.Input.{start_of};
-ghost use Rattle.dg_tool.specs.Out.{line_text, out_of_lines, out_of_start, out_of_task, stats_lines};
-ghost use Rattle.dg_tool.specs.Statement.{IsDeskOfStart, IsDeskOfTask, IsOutput, made_by_start, made_by_task};
+ghost use Rattle.dg_tool.specs.Input.{Tells, start_of, start_with};
+ghost use Rattle.dg_tool.specs.Out.{bad_lines, checked, fitting, line_text, out_of_fitting, out_of_start, out_of_task, stats_lines};
+ghost use Rattle.dg_tool.specs.Seen.{IsOpened, seen_project};
+ghost use Rattle.dg_tool.specs.Statement.{IsDeskOfStart, IsDeskOfTask, IsOutput, alone, made_by_start, made_by_task};
 ghost use Rattle.dg_words.specs.Ranges.{IsInRange};
 
 use crate::format::formatted_in;
-use crate::halt::{Halt, Limit};
-use crate::input::{loaded, script_of};
-use crate::lines::printed;
+use crate::halt::Halt;
+use crate::input::script_of;
+use crate::lines::{checked, printed};
+use crate::project::{Project, loaded};
 use crate::text::{Lines, stats_line};
 use dg_base::{Refusal, Steps};
 use dg_files::{Bytes, Files};
 use dg_play::{Played, ScriptDesk, State, play_commands};
+use dg_script::Script;
+use dg_sources::BadPlace;
 use dg_words::Task;
 use std::alloc::{AllocError, Global};
 use std::sync::ledger::Ledger;
@@ -51,56 +55,103 @@ pub(crate) fn output_of<F: Files, L: Ledger>(
             workers: _,
             cache,
             stats,
-        } => run_output(alloc, script.as_str(), cache, stats, files, steps),
-        Task::Format { path } => match formatted_in(alloc, files, path.as_str()) {
-            Ok(lines) => Ok(Output { lines, desk: None }),
+        } => match script_of(alloc, files, script.as_str()) {
+            Ok(commands) => run_output(alloc, commands, cache, stats, files, steps),
             Err(refusal) => Err(refusal),
         },
-        Task::Check | Task::Build { .. } | Task::Gen { .. } => Err(Refusal::Because(
-            Halt::NotBuilt,
-        )),
+        Task::Check => alone(checked_in(alloc, files)),
+        Task::Format { path } => alone(formatted_in(alloc, files, path.as_str())),
+        Task::Build { .. } | Task::Gen { .. } => Err(Refusal::Because(Halt::NotBuilt)),
     }
 }
 
-// The output of a script that is played to its end.
+// Lines that are printed of a task that plays nothing.
+fn alone(lines: Result<Lines, Refusal<Halt>>) -> Result<Output, Refusal<Halt>>
+    ensures { result ≡ alone lines }
+{
+    match lines {
+        Ok(lines) => Ok(Output { lines, desk: None }),
+        Err(refusal) => Err(refusal),
+    }
+}
+
+// The lines of the project that is checked.
+fn checked_in<F: Files>(alloc: Global, files: &mut F) -> Result<Lines, Refusal<Halt>>
+    ensures told { IfSome (F.tree files.old) (λ t. Tells (λ ls. ls) result (checked defold_tables t)) }
+    ensures tree { F.tree files.new ≡ F.tree files.old }
+    ensures never_falls { F.faults files.old ≤ F.faults files.new }
+    ensures cause { IsErrOf result (Refusal.Because Halt.FileFault) → Rose (F.faults files.old) (F.faults files.new) }
+    ensures sound { StaysSound F.is_sound F.faults files.old files.new }
+{
+    match loaded(alloc, files, 1) {
+        Ok(project) => checked(alloc, &project),
+        Err(refusal) => Err(refusal),
+    }
+}
+
+// The output of a script that is played to its end, over the project, which is loaded before.
 fn run_output<F: Files, L: Ledger>(
     alloc: Global,
-    script: &str,
+    commands: Script,
     capacity: u32,
     stats: bool,
     files: &mut F,
     steps: &mut Steps<L>,
 ) -> Result<Output, Refusal<Halt>>
     requires { 1 ≤ capacity }
-    ensures told { IfSome (F.tree files.old) (λ t. IsOutput result (out_of_start defold_tables stats (start_of t script.now capacity))) }
-    ensures desk { IfOk result (λ o. IfSome (F.tree files.old) (λ t. IsDeskOfStart defold_tables (start_of t script.now capacity) o.desk)) }
-    ensures work { IfOk result (λ o. IfSome (F.tree files.old) (λ t. steps.new ≡ steps.old + made_by_start defold_tables (start_of t script.now capacity))) }
+    ensures told { IfSome (F.tree files.old) (λ t. IsOutput result (out_of_start defold_tables stats (start_of defold_tables t capacity (Ok commands)))) }
+    ensures desk { IfOk result (λ o. IfSome (F.tree files.old) (λ t. IsDeskOfStart defold_tables (start_of defold_tables t capacity (Ok commands)) o.desk)) }
+    ensures work { IfOk result (λ o. IfSome (F.tree files.old) (λ t.
+        steps.new ≡ steps.old + made_by_start defold_tables (start_of defold_tables t capacity (Ok commands)))) }
     ensures tree { F.tree files.new ≡ F.tree files.old }
     ensures never_falls { F.faults files.old ≤ F.faults files.new }
     ensures cause { IsErrOf result (Refusal.Because Halt.FileFault) → Rose (F.faults files.old) (F.faults files.new) }
     ensures sound { StaysSound F.is_sound F.faults files.old files.new }
 {
-    let commands = script_of(alloc, files, script)?;
-    let begin = loaded(alloc, capacity)?;
-    let done = play_commands(alloc, commands.as_slice(), begin, steps)?;
-    finished(alloc, stats, done)
+    match loaded(alloc, files, capacity) {
+        Ok(project) => play_output(alloc, commands, project, stats, steps),
+        Err(refusal) => Err(refusal),
+    }
+}
+
+// The output of a script that is played to its end.
+fn play_output<L: Ledger>(
+    alloc: Global,
+    commands: Script,
+    project: Project,
+    stats: bool,
+    steps: &mut Steps<L>,
+) -> Result<Output, Refusal<Halt>>
+    requires { IsOpened project.begin }
+    ensures told { IsOutput result (out_of_start defold_tables stats (Ok (start_with commands project.begin.world.desk.capacity (seen_project project)))) }
+    ensures desk { IfOk result (λ o. IsDeskOfStart defold_tables (Ok (start_with commands project.begin.world.desk.capacity (seen_project project))) o.desk) }
+    ensures work { IfOk result (λ o.
+        steps.new ≡ steps.old + made_by_start defold_tables (Ok (start_with commands project.begin.world.desk.capacity (seen_project project)))) }
+    ensures no_fault { ¬ IsErrOf result (Refusal.Because Halt.FileFault) }
+{
+    let done = play_commands(alloc, commands.as_slice(), project.begin, steps)?;
+    finished(alloc, project.bad.as_slice(), stats, done)
 }
 
 // The output of a script that was played.
-fn finished(alloc: Global, stats: bool, done: Played) -> Result<Output, Refusal<Halt>>
-    ensures told { IsOutput result (out_of_lines (record { lines = map line_of done.lines.items; state = state_of done.state })
-        (map (λ l. line_text defold_tables done.state.names (line_of l)) done.lines.items ++ stats_lines stats (work_in done.state.world))) }
+fn finished(
+    alloc: Global,
+    bad: &[BadPlace],
+    stats: bool,
+    done: Played,
+) -> Result<Output, Refusal<Halt>>
+    ensures told { IsOutput result (out_of_fitting (record { lines = map line_of done.lines.items; state = state_of done.state })
+        (fitting (bad_lines bad.now ++ (map (λ l. line_text defold_tables done.state.names (line_of l)) done.lines.items ++ stats_lines stats (work_in done.state.world))))) }
     ensures desk { IfOk result (λ o. o.desk ≡ Some done.state.world.desk) }
     ensures no_fault { ¬ IsErrOf result (Refusal.Because Halt.FileFault) }
 {
     let last = last_line(alloc, stats, &done.state)?;
-    match printed(alloc, done.lines.as_slice(), &done.state.names, last)? {
-        Some(lines) => Ok(Output {
-            lines,
-            desk: Some(done.state.into_desk()),
-        }),
-        None => Err(Refusal::Because(Halt::TooLarge(Limit::Text))),
-    }
+    let lines = printed(alloc, bad, done.lines.as_slice(), &done.state.names, last)?;
+    let (desk, _) = done.state.into_parts();
+    Ok(Output {
+        lines,
+        desk: Some(desk),
+    })
 }
 
 // The line on the work that was done, where it is asked for.

@@ -1,12 +1,15 @@
 //! The lines that are to be printed, of a bounded size together.
-ghost use Rattle.std.specs.Prelude.{◌≡◌, [], ◌∷◌, ◌++◌, false, IfOk, IsTrue, not};
+ghost use Rattle.std.specs.Prelude.{◌≡◌, [], ◌∷◌, ◌++◌, Ok};
 ghost use Rattle.std.specs.Option.{option_to_list};
-ghost use Rattle.dg_tool.specs.Out.{is_large};
+ghost use Rattle.dg_base.specs.Refusal.{Gives};
+ghost use Rattle.dg_tool.specs.Out.{fitting};
 
+use crate::halt::{Halt, Limit};
 use crate::size::MAX_TEXT;
 use crate::text::Lines;
+use dg_base::Refusal;
 use dg_files::Bytes;
-use std::alloc::{AllocError, Global};
+use std::alloc::Global;
 use std::marker::Model;
 
 /// The lines so far, and how many bytes there is room for behind them.
@@ -37,35 +40,38 @@ impl Page {
         }
     }
 
-    /// Puts a line behind the others. Answers whether with it all lines have no more bytes than are printed; a line
-    /// with which they have more isn't kept.
-    pub(crate) fn put(&mut self, line: Bytes) -> Result<bool, AllocError>
-        ensures fits { IfOk result (λ fits. fits ≡ not (is_large (self.old ++ line ∷ []))) }
-        ensures kept { IfOk result (λ fits. IsTrue fits → self.new ≡ self.old ++ line ∷ []) }
+    /// Puts a line behind the others. Refused where with it all lines have more bytes than are printed.
+    pub(crate) fn put(&mut self, line: Bytes) -> Result<(), Refusal<Halt>>
+        ensures { Gives (λ _. self.new) result (fitting (self.old ++ line ∷ [])) }
     {
         let Some(room) = self.room.checked_sub(line.len()) else {
-            return Ok(false);
+            return Err(Refusal::Because(Halt::TooLarge(Limit::Text)));
         };
         self.lines.push(line)?;
         self.room = room;
-        Ok(true)
+        Ok(())
     }
 
     /// Puts a line as [`Page::put`] does, where there is one.
-    pub(crate) fn put_some(&mut self, line: Option<Bytes>) -> Result<bool, AllocError>
-        ensures fits { IfOk result (λ fits. fits ≡ not (is_large (self.old ++ option_to_list line))) }
-        ensures kept { IfOk result (λ fits. IsTrue fits → self.new ≡ self.old ++ option_to_list line) }
+    pub(crate) fn put_some(&mut self, line: Option<Bytes>) -> Result<(), Refusal<Halt>>
+        ensures { Gives (λ _. self.new) result (fitting (self.old ++ option_to_list line)) }
     {
         let _ = &self.lines;
         match line {
             Some(line) => self.put(line),
-            None => Ok(true),
+            None => Ok(()),
         }
     }
 
+    /// All of them fit.
+    pub(crate) fn is_fitting(&self)
+        ensures { fitting self.now ≡ Ok self.now }
+    {
+        let _ = &self.lines;
+    }
+
     pub(crate) fn into_lines(self) -> Lines
-        ensures lines { result ≡ self }
-        ensures fits { is_large result ≡ false }
+        ensures { fitting self ≡ Ok result }
     {
         let Page { lines, .. } = self;
         lines

@@ -4,6 +4,7 @@ use crate::cases::{
     EDITED, FIRST, FIRST_LINES, FORMATTED, GRAPHS, NAMES, OVERRIDES, REFUSED, SPELLED, TEN,
     WORDS_ENDED, WORKED, Worked,
 };
+use crate::projects::{Case, PROJECTS};
 use crate::{Ended, run_alone};
 use dg_base::Steps;
 use dg_files::{MemFiles, MemSink, are_distinct};
@@ -108,8 +109,10 @@ fn the_first_script_ends_as_the_outside_lets_it(rt: HostRuntime) -> Result<(), F
         (4096, 0, 0, 0, FIRST_LINES),
         (1, 0, 0, 0, FIRST_LINES),
         (4096, 1, 0, 4, ""),
-        // Beside the one read of the script no call of the files is made, and no put beside those of the lines.
-        (4096, 2, 0, 0, FIRST_LINES),
+        (4096, 2, 0, 4, ""),
+        // Beside the read of the script and the list of a project without files no call of the files is made, and no
+        // put beside those of the lines.
+        (4096, 3, 0, 0, FIRST_LINES),
         (4096, 0, 1, 5, ""),
         (4096, 0, 2, 5, "1: ok\n"),
         (4096, 0, 9, 0, FIRST_LINES),
@@ -135,6 +138,42 @@ fn a_sum_out_of_range_is_a_fault(rt: HostRuntime) -> Result<(), Fail> {
     let (ended, printed) = run(rt.alloc(), WORDS, &sound(TEN))?;
     assert_eq!(rt; ended.status.code(), 0);
     assert!(rt; printed.ends_with(b"30: ok\n31: 8999999991\n32: ok\n33: fault 11.total Range\n"));
+    Ok(())
+}
+
+/// Files at these paths, of which one call fails (0 for none).
+fn project_of(
+    alloc: Global,
+    files: &[(&str, &[u8])],
+    failing: u64,
+) -> Result<MemFiles, AllocError> {
+    let mut tree = Vec::new(alloc);
+    for (path, bytes) in files {
+        tree.push((
+            String::from_str(alloc, path)?,
+            Vec::from_slice(alloc, bytes)?,
+        ))?;
+    }
+    if !are_distinct(&tree) {
+        return Err(AllocError);
+    }
+    Ok(MemFiles::new(alloc, tree, vec![in alloc; failing]?))
+}
+
+/// Whether a run over a project ends with the status, having printed just the text.
+fn prints(alloc: Global, case: &Case<'_>, failing: u64) -> Result<bool, AllocError> {
+    let words = words_of(alloc, case.words)?;
+    let mut files = project_of(alloc, case.files, failing)?;
+    let mut out = MemSink::new(alloc, Vec::new(alloc), 4096);
+    let ended = played(alloc, words.as_slice(), &mut files, &mut out);
+    Ok(ended.status.code() == case.status && out.as_slice() == case.text.as_bytes())
+}
+
+#[test]
+fn projects_are_loaded_and_checked(rt: HostRuntime) -> Result<(), Fail> {
+    for case in PROJECTS.iter() {
+        assert!(rt; prints(rt.alloc(), case, 0)?, "{}", case.text);
+    }
     Ok(())
 }
 

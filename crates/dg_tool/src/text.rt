@@ -1,14 +1,15 @@
 //! The printed texts of refusals and lines. Each call puts its text behind what is there.
 ghost use Rattle.std.specs.Prelude.{◌≡◌, [], ◌∷◌, ◌++◌, codes, IfOk, OnOk};
 ghost use Rattle.dg_tool.specs.Halts.{error_line, limit_text};
-ghost use Rattle.dg_tool.specs.Text.{missing_text, code_text, refused_text, pinned_text, bad_code_text, bad_file_text, bad_line_text, file_code_text, stats_text};
+ghost use Rattle.dg_tool.specs.Text.{missing_text, code_text, refused_text, pinned_text, bad_code_text, bad_file_text, bad_line_text, bad_place_text, built_files_text, place_code_text, size_text, stats_text};
 
-use crate::halt::{FileCode, Limit};
+use crate::halt::Limit;
 use dg_base::TxCode;
 use dg_bind::Missing;
 use dg_files::Bytes;
 use dg_play::WorkDone;
 use dg_script::ScriptCode;
+use dg_sources::{BadCode, BadPlace};
 use itoa::Buffer;
 use std::alloc::{AllocError, Global};
 
@@ -31,6 +32,14 @@ pub(crate) fn put_pinned(out: &mut Vec<u8>, number: u32) -> Result<(), AllocErro
 {
     out.extend_from_slice(b"pinned ")?;
     out.extend_from_slice(Buffer::new().format(number).as_bytes())
+}
+
+/// How many files were written.
+pub(crate) fn put_built(out: &mut Vec<u8>, count: usize) -> Result<(), AllocError>
+    ensures { OnOk result (out.new.items ≡ out.old.items ++ built_files_text count) }
+{
+    out.extend_from_slice(b"built ")?;
+    out.extend_from_slice(Buffer::new().format(count).as_bytes())
 }
 
 /// The line on the work that was done: how many productions were made, how many entries of what was published were
@@ -109,27 +118,64 @@ pub(crate) fn bad_line(alloc: Global, line: u32, code: ScriptCode) -> Result<Byt
     error(alloc, what.as_slice())
 }
 
-fn file_code_text(code: FileCode) -> &'static str
-    ensures { result.now ≡ file_code_text code }
+fn place_code_text(code: BadCode) -> &'static str
+    ensures { result.now ≡ place_code_text code }
 {
     match code {
-        FileCode::Utf8 => "Utf8",
-        FileCode::Token => "Token",
-        FileCode::Nesting => "Nesting",
-        FileCode::Unclosed => "Unclosed",
-        FileCode::Missing => "Missing",
-        FileCode::Form => "Form",
+        BadCode::Gone => "Gone",
+        BadCode::Utf8 => "Utf8",
+        BadCode::Token => "Token",
+        BadCode::Nesting => "Nesting",
+        BadCode::Unclosed => "Unclosed",
+        BadCode::Missing => "Missing",
+        BadCode::Form => "Form",
+        BadCode::Absent => "Absent",
+        BadCode::Data => "Data",
+        BadCode::Recursive => "Recursive",
     }
 }
 
+/// The line of a bad place of a project.
+pub(crate) fn bad_place(alloc: Global, place: &BadPlace) -> Result<Bytes, AllocError>
+    ensures { IfOk result (λ l. l ≡ bad_place_text place.now ++ 10 ∷ []) }
+{
+    let mut line = Vec::from_slice(alloc, b"bad ")?;
+    line.extend_from_slice(place.path.as_str().as_bytes())?;
+    line.extend_from_slice(b" ")?;
+    line.extend_from_slice(Buffer::new().format(place.line).as_bytes())?;
+    line.extend_from_slice(b" ")?;
+    line.extend_from_slice(place_code_text(place.code).as_bytes())?;
+    line.extend_from_slice(b"\n")?;
+    Ok(Bytes::from_vec(line))
+}
+
+/// The line on what a project has: its nodes, its arcs and its bad places.
+pub(crate) fn size_line(
+    alloc: Global,
+    nodes: usize,
+    arcs: usize,
+    bad: usize,
+) -> Result<Bytes, AllocError>
+    ensures { IfOk result (λ l. l ≡ size_text nodes arcs bad ++ 10 ∷ []) }
+{
+    let mut line = Vec::from_slice(alloc, b"nodes ")?;
+    line.extend_from_slice(Buffer::new().format(nodes).as_bytes())?;
+    line.extend_from_slice(b" arcs ")?;
+    line.extend_from_slice(Buffer::new().format(arcs).as_bytes())?;
+    line.extend_from_slice(b" bad ")?;
+    line.extend_from_slice(Buffer::new().format(bad).as_bytes())?;
+    line.extend_from_slice(b"\n")?;
+    Ok(Bytes::from_vec(line))
+}
+
 /// The error line of a file that can't be read.
-pub(crate) fn bad_file(alloc: Global, line: u32, code: FileCode) -> Result<Bytes, AllocError>
+pub(crate) fn bad_file(alloc: Global, line: u32, code: BadCode) -> Result<Bytes, AllocError>
     ensures { IfOk result (λ l. l ≡ error_line (bad_file_text line code)) }
 {
     let mut what = Vec::from_slice(alloc, b"file line ")?;
     what.extend_from_slice(Buffer::new().format(line).as_bytes())?;
     what.extend_from_slice(b" ")?;
-    what.extend_from_slice(file_code_text(code).as_bytes())?;
+    what.extend_from_slice(place_code_text(code).as_bytes())?;
     error(alloc, what.as_slice())
 }
 
@@ -148,7 +194,11 @@ fn limit_text(limit: Limit) -> &'static str
     match limit {
         Limit::Script => "script",
         Limit::Lines => "lines",
+        Limit::Files => "files",
         Limit::File => "file",
+        Limit::Total => "total",
+        Limit::Nodes => "nodes",
+        Limit::Arcs => "arcs",
         Limit::Text => "text",
     }
 }

@@ -4,7 +4,6 @@ use Rattle.dg_play.specs.declared.reply.Reply.{Reply as CodeReply}
 use Rattle.dg_play.specs.Play.{Turn, alias, graph_now}
 use Rattle.dg_play.specs.Seen.{reply_of, state_of}
 use Rattle.dg_play.proofs.Turns.{named-worked}
-use Rattle.dg_play.proofs.Working.{on-same}
 use Rattle.dg_play.proofs.play.turn.Goals as goal
 
 pub returns-in-Alias-clause-work : goal.returns-in-Alias-clause-work
@@ -15,6 +14,3 @@ returns-in-Alias-clause-work g c =
     let found = subst (λ (n : List ℕ). IfOk c.alias.result (λ (r : CodeReply). ◌≡◌ {A = Turn} (alias s c.in-Alias.name (node_of_question (graph_now s) s.bound n)) (record { state = state_of c.alias.new.state; reply = reply_of r })))
     c.as_str-in-Alias-2.ensures named in
     rw c.in-Alias.is (named-worked c.alias.result c.args.state.now.world c.alias.new.state.world (alias s c.in-Alias.name (node_of_question (graph_now s) s.bound c.in-Alias.node)) (state_of c.alias.new.state) reply_of found c.alias.ensures.world refl)
-
-pub returns-in-Build-clause-work : goal.returns-in-Build-clause-work
-returns-in-Build-clause-work g c = rw c.in-Build.is (on-same c.args.state.now.world c.args.state.now.world refl refl refl)

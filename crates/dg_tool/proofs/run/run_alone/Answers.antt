@@ -1,4 +1,4 @@
-use Rattle.std.proofs.Common.{◌≡◌, List, ℕ, map, string_bytes, Result, Ok, Err, ◌+◌, sym, ◌∙◌, subst}
+use Rattle.std.proofs.Common.{◌≡◌, map, string_bytes, Result, Ok, ◌+◌, sym, ◌∙◌, subst}
 use Rattle.std.proofs.lemmas.Option.{IfSome_then}
 use Rattle.dg_kinds_coll.specs.Defold.{defold_tables}
 use Rattle.dg_words.specs.declared.task.Task.{Task}

@@ -1,5 +1,6 @@
 use Rattle.std.proofs.Common.{refl}
 use Rattle.std.specs.Fmt.{digits}
+use Rattle.dg_load.specs.Loads.{all_parts}
 use Rattle.std.specs.Char.{encode_utf8}
 use Rattle.std.specs.Str.{chars, is_utf8}
 use Rattle.dg_decimal.specs.Canonical.{fraction_digits}
@@ -8,5 +9,5 @@ use Rattle.dg_report.specs.Parts.{number_text}
 use Rattle.dg_tool.proofs.worked.makes.Goals as goal
 
 pub returns : goal.returns
-unfolding digits chars is_utf8 encode_utf8 number_in fraction_digits number_text
+unfolding all_parts digits chars is_utf8 encode_utf8 number_in fraction_digits number_text
 returns c = (refl, refl)

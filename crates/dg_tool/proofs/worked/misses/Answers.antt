@@ -1,10 +1,11 @@
 use Rattle.std.proofs.Common.{refl}
 use Rattle.std.specs.Fmt.{digits}
+use Rattle.dg_load.specs.Loads.{all_parts}
 use Rattle.std.specs.Char.{encode_utf8}
 use Rattle.std.specs.Str.{chars, is_utf8}
 use Rattle.dg_decimal.specs.Reading.{number_in}
 use Rattle.dg_tool.proofs.worked.misses.Goals as goal
 
 pub returns : goal.returns
-unfolding digits chars is_utf8 encode_utf8 number_in
+unfolding all_parts digits chars is_utf8 encode_utf8 number_in
 returns c = (refl, refl)

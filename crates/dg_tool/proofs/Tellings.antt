@@ -1,0 +1,64 @@
+-- What calls tell that read the files, one after the other.
+use Rattle.std.proofs.Common.{◌≡◌, Result, Ok, Err, ap, ◌∙◌, subst, sym, true≢false}
+use Rattle.std.specs.Prelude.{IsErr, IsErrAnd}
+use Rattle.dg_base.specs.Refusal.{Gives}
+use Rattle.dg_base.specs.declared.refusal.Refusal.{Refusal}
+use Rattle.dg_base.specs.declared.refusal.Refusal.TheVariants as refusal
+use Rattle.dg_tool.specs.declared.halt.Halt.{Halt}
+use Rattle.dg_tool.specs.declared.halt.Halt.TheVariants as halt
+use Rattle.dg_tool.specs.Input.{Tells}
+use Rattle.dg_tool.specs.Out.{Out, halted}
+use Rattle.dg_tool.specs.Statement.{IsOutput}
+
+-- the error that is handed on is the one that was answered
+pub handed : {X E : Type 0} (r : Result X E) (e : E) → IsErr r × IsErrAnd r (λ x. x ≡ e) → r ≡ Err e
+handed (Ok x) e is = absurd (true≢false (sym is.0))
+handed (Err x) e is = ap Err is.1
+
+-- where a call is refused, so is the whole of which it does a part
+pub gives-on : {X Y W Z : Type 0} (view : X → Y) (other : W → Z) (e : Refusal Halt) (given : Result Y Halt) (whole : Result Z Halt) →
+    ((h : Halt) → given ≡ Err h → whole ≡ Err h) → Gives view (Err e) given → Gives other (Err e) whole
+gives-on view other (refusal.Because h) given whole stops is = stops h is
+gives-on view other refusal.NoMemory given whole stops is = tt
+
+pub gives-handed : {X Y W Z : Type 0} (view : X → Y) (other : W → Z) (r : Result W (Refusal Halt)) (e : Refusal Halt) (given : Result Y Halt) (whole : Result Z Halt) →
+    IsErr r × IsErrAnd r (λ x. x ≡ e) → ((h : Halt) → given ≡ Err h → whole ≡ Err h) → Gives view (Err e) given → Gives other r whole
+gives-handed view other r e given whole is stops gives = subst (λ q. Gives other q whole) (sym (handed r e is)) (gives-on view other e given whole stops gives)
+
+module _ {X Y : Type 0} (view : X → Y) where
+  -- a call without files tells what it gives
+  pub told-of : (r : Result X (Refusal Halt)) (given : Result Y Halt) → Gives view r given → Tells view r given
+  told-of (Ok x) given is = is
+  told-of (Err refusal.NoMemory) given is = tt
+  told-of (Err (refusal.Because halt.FileFault)) given is = tt
+  told-of (Err (refusal.Because halt.NoInput)) given is = is
+  told-of (Err (refusal.Because (halt.BadLine line code))) given is = is
+  told-of (Err (refusal.Because (halt.BadFile line code))) given is = is
+  told-of (Err (refusal.Because halt.NotBuilt)) given is = is
+  told-of (Err (refusal.Because (halt.TooLarge what))) given is = is
+
+  -- and no fault of the files where that isn't one
+  pub no_fault-of : (r : Result X (Refusal Halt)) (given : Result Y Halt) → (given ≡ Err halt.FileFault → ⊥) → Gives view r given → r ≡ Err (refusal.Because halt.FileFault) → ⊥
+  no_fault-of r given none is failed = none (subst (λ q. Gives view q given) failed is)
+
+  module _ {W Z : Type 0} (other : W → Z) (on : Result Y Halt → Result Z Halt) (stops : (h : Halt) → on (Err h) ≡ Err h) where
+    -- where it is refused, so is what goes on from it
+    pub told-on : (e : Refusal Halt) (given : Result Y Halt) → Tells view (Err e) given → Tells other (Err e) (on given)
+    told-on refusal.NoMemory given is = tt
+    told-on (refusal.Because halt.FileFault) given is = tt
+    told-on (refusal.Because halt.NoInput) given is = ap on is ∙ stops halt.NoInput
+    told-on (refusal.Because (halt.BadLine line code)) given is = ap on is ∙ stops (halt.BadLine line code)
+    told-on (refusal.Because (halt.BadFile line code)) given is = ap on is ∙ stops (halt.BadFile line code)
+    told-on (refusal.Because halt.NotBuilt) given is = ap on is ∙ stops halt.NotBuilt
+    told-on (refusal.Because (halt.TooLarge what)) given is = ap on is ∙ stops (halt.TooLarge what)
+
+  -- and what the run leaves of it
+  module _ (on : Result Y Halt → Out) (stops : (h : Halt) → on (Err h) ≡ halted h) where
+    pub told-out : (e : Refusal Halt) (given : Result Y Halt) → Tells view (Err e) given → IsOutput (Err e) (on given)
+    told-out refusal.NoMemory given is = tt
+    told-out (refusal.Because halt.FileFault) given is = tt
+    told-out (refusal.Because halt.NoInput) given is = ap on is ∙ stops halt.NoInput
+    told-out (refusal.Because (halt.BadLine line code)) given is = ap on is ∙ stops (halt.BadLine line code)
+    told-out (refusal.Because (halt.BadFile line code)) given is = ap on is ∙ stops (halt.BadFile line code)
+    told-out (refusal.Because halt.NotBuilt) given is = ap on is ∙ stops halt.NotBuilt
+    told-out (refusal.Because (halt.TooLarge what)) given is = ap on is ∙ stops (halt.TooLarge what)

@@ -1,0 +1,118 @@
+//! The project that a run begins with.
+ghost use Rattle.std.specs.Prelude.{◌≡◌, ◌≤◌, [], OnOk, IfOk, IfSome, IsErrOf};
+ghost use Rattle.dg_base.specs.Refusal.{Gives};
+ghost use Rattle.dg_files.specs.Outcome.{Rose, StaysSound};
+ghost use Rattle.dg_kinds_coll.specs.Defold.{defold_tables};
+ghost use Rattle.dg_tool.specs.Input.{Tells};
+ghost use Rattle.dg_tool.specs.Project.{bind_loaded, bind_next, limit_of, limit_of_step, loaded, project_of};
+ghost use Rattle.dg_tool.specs.Seen.{IsOpened, seen_project};
+
+use crate::halt::{Halt, Limit};
+use dg_base::{Names, NodeId, Refusal, TxCode};
+use dg_bind::Bindings;
+use dg_files::Files;
+use dg_load::{Bound, Loaded, load};
+use dg_play::State;
+use dg_sources::{BadPlaces, Large, LoadEnd};
+use std::alloc::{AllocError, Global};
+
+/// A project that was loaded: the state that a script begins with, and the bad places of its files.
+#[derive(Drop)]
+pub(crate) struct Project {
+    pub(crate) begin: State,
+    pub(crate) bad: BadPlaces,
+}
+
+/// Loads the project, with a cache for so many entries. The files are read and nothing else.
+pub(crate) fn loaded<F: Files>(
+    alloc: Global,
+    files: &mut F,
+    capacity: u32,
+) -> Result<Project, Refusal<Halt>>
+    requires { 1 ≤ capacity }
+    ensures told { IfSome (F.tree files.old) (λ t. Tells seen_project result (loaded defold_tables t)) }
+    ensures opened { IfOk result (λ p. IsOpened p.begin) }
+    ensures capacity { IfOk result (λ p. p.begin.world.desk.capacity ≡ capacity) }
+    ensures tree { F.tree files.new ≡ F.tree files.old }
+    ensures never_falls { F.faults files.old ≤ F.faults files.new }
+    ensures cause { IsErrOf result (Refusal.Because Halt.FileFault) → Rose (F.faults files.old) (F.faults files.new) }
+    ensures sound { StaysSound F.is_sound F.faults files.old files.new }
+{
+    let mut names = Names::new(alloc);
+    match load(alloc, files, &mut names) {
+        Ok(loaded) => project_of(alloc, names, loaded, capacity),
+        Err(Refusal::Because(LoadEnd::TooLarge(what))) => Err(Refusal::Because(Halt::TooLarge(
+            limit_of(what),
+        ))),
+        Err(Refusal::Because(LoadEnd::FileFault)) => Err(Refusal::Because(Halt::FileFault)),
+        Err(Refusal::NoMemory) => Err(Refusal::NoMemory),
+    }
+}
+
+fn limit_of(what: Large) -> Limit
+    ensures { result ≡ limit_of what }
+{
+    match what {
+        Large::Files => Limit::Files,
+        Large::File => Limit::File,
+        Large::Total => Limit::Total,
+    }
+}
+
+/// The project of a load: its steps are the first transaction, and its names are bound.
+pub(crate) fn project_of(
+    alloc: Global,
+    names: Names,
+    loaded: Loaded,
+    capacity: u32,
+) -> Result<Project, Refusal<Halt>>
+    requires { 1 ≤ capacity }
+    ensures told { Gives seen_project result (project_of defold_tables names loaded) }
+    ensures opened { IfOk result (λ p. IsOpened p.begin) }
+    ensures capacity { IfOk result (λ p. p.begin.world.desk.capacity ≡ capacity) }
+    ensures no_fault { ¬ IsErrOf result (Refusal.Because Halt.FileFault) }
+{
+    let (mut begin, made) = match State::open(alloc, loaded.steps.as_slice(), capacity) {
+        Ok(opened) => opened,
+        Err(Refusal::Because(refused)) => {
+            return Err(Refusal::Because(Halt::TooLarge(limit_of_step(refused.code))));
+        }
+        Err(Refusal::NoMemory) => return Err(Refusal::NoMemory),
+    };
+    begin.names = names;
+    match bind_loaded(&mut begin.bound, made.as_slice(), loaded.bound.as_slice()) {
+        Ok(()) => Ok(Project {
+            begin,
+            bad: loaded.bad,
+        }),
+        Err(_) => Err(Refusal::NoMemory),
+    }
+}
+
+fn limit_of_step(code: TxCode) -> Limit
+    ensures { result ≡ limit_of_step code }
+{
+    match code {
+        TxCode::TooManyArcs => Limit::Arcs,
+        _ => Limit::Nodes,
+    }
+}
+
+// Binds each name to the node that the making step of its number made.
+fn bind_loaded(bound: &mut Bindings, made: &[NodeId], loaded: &[Bound]) -> Result<(), AllocError>
+    ensures { OnOk result (bound.new ≡ bind_loaded made.now loaded.now bound.old) }
+{
+    for next in loaded {
+        bind_next(bound, made, next)?;
+    }
+    Ok(())
+}
+
+fn bind_next(bound: &mut Bindings, made: &[NodeId], next: &Bound) -> Result<(), AllocError>
+    ensures { OnOk result (bound.new ≡ bind_next made.now bound.old next.now) }
+{
+    match made.get(next.node as usize) {
+        Some(node) => bound.bind(next.name.as_str(), *node),
+        None => Ok(()),
+    }
+}

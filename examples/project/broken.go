@@ -1,0 +1,3 @@
+components {
+  id: "control"
+  component: "/hero/hero.script"

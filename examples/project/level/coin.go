@@ -1,0 +1,8 @@
+components {
+  id: "coin"
+  component: "/level/coin.script"
+}
+components {
+  id: "sound"
+  component: "/level/ding.wav"
+}
