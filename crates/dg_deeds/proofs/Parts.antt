@@ -12,7 +12,7 @@ use Rattle.dg_deeds.specs.declared.deed.Deed.TheVariants.{Write, Put}
 use Rattle.dg_deeds.specs.declared.deed.Stop.{Stop}
 use Rattle.dg_deeds.specs.declared.deed.Stop.TheVariants as stop
 use Rattle.dg_deeds.specs.Printed.{text_of, GotPrefix}
-use Rattle.dg_deeds.specs.Deeds.{tree_with, tree_after, text_with, text_after, lines_in, IsUntouched, IsSomeOf, IsPartOf, IsBegun}
+use Rattle.dg_deeds.specs.Deeds.{tree_with, tree_after, text_with, text_after, lines_in, IsUntouched, IsPartOf, IsBehindAll, IsBegun}
 use Rattle.dg_deeds.proofs.Sinks.{GotPrefix-nothing, GotPrefix-front, GotPrefix-behind}
 
 -- ---- two parts
@@ -54,16 +54,19 @@ text_after-more : (d : Deed) (ds : List Deed) (text : Option (List ℕ)) →
 text_after-more d ds None = refl
 text_after-more d ds (Some text) = refl
 
--- nothing done is a beginning of any deeds
-pub IsBegun-untouched : (s : Stop) (ds : List Deed) (tree tree_now : Option Tree) (text text_now : Option (List ℕ)) →
-    IsUntouched tree tree_now text text_now → IsBegun s ds tree tree_now text text_now
-IsBegun-untouched s [] tree tree_now text text_now same = same
-IsBegun-untouched s (d ∷ ds) tree tree_now text text_now same = inl (inl same)
+-- where memory was wanted, nothing done is a beginning of any deeds
+pub IsBegun-untouched : (ds : List Deed) (tree tree_now : Option Tree) (text text_now : Option (List ℕ)) →
+    IsUntouched tree tree_now text text_now → IsBegun stop.NoMemory ds tree tree_now text text_now
+IsBegun-untouched [] tree tree_now text text_now same = same
+IsBegun-untouched (Write path bytes ∷ ds) tree tree_now text text_now same = inl same
+IsBegun-untouched (Put line ∷ ds) tree tree_now text text_now same = inl (same.0, GotPrefix-nothing text text_now line same.1)
 
 -- what is begun of the first part is begun of both
 pub IsBegun-first : (s : Stop) (ds es : List Deed) (tree tree_now : Option Tree) (text text_now : Option (List ℕ)) →
     IsBegun s ds tree tree_now text text_now → IsBegun s (ds ++ es) tree tree_now text text_now
-IsBegun-first s [] es tree tree_now text text_now begun = IsBegun-untouched s es tree tree_now text text_now begun
+IsBegun-first stop.FileFault [] es tree tree_now text text_now begun = absurd begun
+IsBegun-first stop.SinkFault [] es tree tree_now text text_now begun = absurd begun
+IsBegun-first stop.NoMemory [] es tree tree_now text text_now begun = IsBegun-untouched es tree tree_now text text_now begun
 IsBegun-first s (d ∷ ds) es tree tree_now text text_now (inl part) = inl part
 IsBegun-first s (d ∷ ds) es tree tree_now text text_now (inr rest) =
     inr (IsBegun-first s ds es (option_map (tree_with d) tree) tree_now (option_map (text_with d) text) text_now rest)
@@ -130,26 +133,33 @@ text_with-write : (path bytes : List ℕ) (text : Option (List ℕ)) → option_
 text_with-write path bytes None = refl
 text_with-write path bytes (Some text) = refl
 
-some_write : (s : Stop) (path bytes : List ℕ) (tree tree_now : Option Tree) (text text_now : Option (List ℕ)) →
-    IsSomeOf s (Write path bytes) tree tree_now text text_now → text_now ≡ text
-some_write stop.FileFault path bytes tree tree_now text text_now some = some.1
-some_write stop.SinkFault path bytes tree tree_now text text_now some = absurd some
-some_write stop.NoMemory path bytes tree tree_now text text_now some = absurd some
+kept_text : (s : Stop) (path bytes : List ℕ) (tree tree_now : Option Tree) (text text_now : Option (List ℕ)) →
+    IsPartOf s (Write path bytes) tree tree_now text text_now → text_now ≡ text
+kept_text stop.FileFault path bytes tree tree_now text text_now part = part.1
+kept_text stop.SinkFault path bytes tree tree_now text text_now part = absurd part
+kept_text stop.NoMemory path bytes tree tree_now text text_now part = part.1
 
-some_put : (s : Stop) (line : List ℕ) (tree tree_now : Option Tree) (text text_now : Option (List ℕ)) →
-    IsSomeOf s (Put line) tree tree_now text text_now → (tree_now ≡ tree) × GotPrefix text text_now line
-some_put stop.FileFault line tree tree_now text text_now some = absurd some
-some_put stop.SinkFault line tree tree_now text text_now some = some
-some_put stop.NoMemory line tree tree_now text text_now some = some
+part_of_line : (s : Stop) (line : List ℕ) (tree tree_now : Option Tree) (text text_now : Option (List ℕ)) →
+    IsPartOf s (Put line) tree tree_now text text_now → (tree_now ≡ tree) × GotPrefix text text_now line
+part_of_line stop.FileFault line tree tree_now text text_now part = absurd part
+part_of_line stop.SinkFault line tree tree_now text text_now part = part
+part_of_line stop.NoMemory line tree tree_now text text_now part = part
+
+-- behind all of them nothing more is done
+untouched_behind : (s : Stop) (tree tree_now : Option Tree) (text text_now : Option (List ℕ)) →
+    IsBehindAll s tree tree_now text text_now → IsUntouched tree tree_now text text_now
+untouched_behind stop.FileFault tree tree_now text text_now behind = absurd behind
+untouched_behind stop.SinkFault tree tree_now text text_now behind = absurd behind
+untouched_behind stop.NoMemory tree tree_now text text_now behind = behind
 
 pub GotPrefix-begun : (s : Stop) (ds : List Deed) (tree tree_now : Option Tree) (text text_now : Option (List ℕ)) →
     IsBegun s ds tree tree_now text text_now → GotPrefix text text_now (text_of (lines_in ds))
-GotPrefix-begun s [] tree tree_now text text_now same = GotPrefix-nothing text text_now [] same.1
-GotPrefix-begun s (d ∷ ds) tree tree_now text text_now (inl (inl same)) = GotPrefix-nothing text text_now (text_of (lines_in (d ∷ ds))) same.1
-GotPrefix-begun s (Write path bytes ∷ ds) tree tree_now text text_now (inl (inr some)) =
-    GotPrefix-nothing text text_now (text_of (lines_in ds)) (some_write s path bytes tree tree_now text text_now some)
-GotPrefix-begun s (Put line ∷ ds) tree tree_now text text_now (inl (inr some)) =
-    GotPrefix-front text text_now line (text_of (lines_in ds)) (some_put s line tree tree_now text text_now some).1
+GotPrefix-begun s [] tree tree_now text text_now behind =
+    GotPrefix-nothing text text_now [] (untouched_behind s tree tree_now text text_now behind).1
+GotPrefix-begun s (Write path bytes ∷ ds) tree tree_now text text_now (inl part) =
+    GotPrefix-nothing text text_now (text_of (lines_in ds)) (kept_text s path bytes tree tree_now text text_now part)
+GotPrefix-begun s (Put line ∷ ds) tree tree_now text text_now (inl part) =
+    GotPrefix-front text text_now line (text_of (lines_in ds)) (part_of_line s line tree tree_now text text_now part).1
 GotPrefix-begun s (Write path bytes ∷ ds) tree tree_now text text_now (inr rest) =
     subst (λ b. GotPrefix b text_now (text_of (lines_in ds))) (text_with-write path bytes text)
     (GotPrefix-begun s ds (option_map (tree_with (Write path bytes)) tree) tree_now (option_map (text_with (Write path bytes)) text) text_now rest)
@@ -159,21 +169,21 @@ GotPrefix-begun s (Put line ∷ ds) tree tree_now text text_now (inr rest) =
 
 -- ---- whole files
 
-kept_by_part : (s : Stop) (d : Deed) (tree tree_now : Option Tree) (text text_now : Option (List ℕ)) → s ≢ stop.FileFault →
-    IsSomeOf s d tree tree_now text text_now → tree_now ≡ tree
-kept_by_part stop.FileFault d tree tree_now text text_now differs some = absurd (differs refl)
-kept_by_part stop.SinkFault (Write path bytes) tree tree_now text text_now differs some = absurd some
-kept_by_part stop.SinkFault (Put line) tree tree_now text text_now differs some = some.0
-kept_by_part stop.NoMemory (Write path bytes) tree tree_now text text_now differs some = absurd some
-kept_by_part stop.NoMemory (Put line) tree tree_now text text_now differs some = some.0
+kept_tree : (s : Stop) (d : Deed) (tree tree_now : Option Tree) (text text_now : Option (List ℕ)) → s ≢ stop.FileFault →
+    IsPartOf s d tree tree_now text text_now → tree_now ≡ tree
+kept_tree stop.FileFault d tree tree_now text text_now differs part = absurd (differs refl)
+kept_tree stop.SinkFault (Write path bytes) tree tree_now text text_now differs part = absurd part
+kept_tree stop.SinkFault (Put line) tree tree_now text text_now differs part = part.0
+kept_tree stop.NoMemory (Write path bytes) tree tree_now text text_now differs part = part.0
+kept_tree stop.NoMemory (Put line) tree tree_now text text_now differs part = part.0
 
 -- where it wasn't the files that failed, the tree is that behind the first deeds
 pub tree_after-begun : (s : Stop) (ds : List Deed) (tree tree_now : Option Tree) (text text_now : Option (List ℕ)) → s ≢ stop.FileFault →
     IsBegun s ds tree tree_now text text_now → (n : ℕ) × (tree_now ≡ option_map (tree_after (take n ds)) tree)
-tree_after-begun s [] tree tree_now text text_now differs same = (0, same.0 ∙ sym (tree_after-none tree))
-tree_after-begun s (d ∷ ds) tree tree_now text text_now differs (inl (inl same)) = (0, same.0 ∙ sym (tree_after-none tree))
-tree_after-begun s (d ∷ ds) tree tree_now text text_now differs (inl (inr some)) =
-    (0, kept_by_part s d tree tree_now text text_now differs some ∙ sym (tree_after-none tree))
+tree_after-begun s [] tree tree_now text text_now differs behind =
+    (0, (untouched_behind s tree tree_now text text_now behind).0 ∙ sym (tree_after-none tree))
+tree_after-begun s (d ∷ ds) tree tree_now text text_now differs (inl part) =
+    (0, kept_tree s d tree tree_now text text_now differs part ∙ sym (tree_after-none tree))
 tree_after-begun s (d ∷ ds) tree tree_now text text_now differs (inr rest) =
     let behind = tree_after-begun s ds (option_map (tree_with d) tree) tree_now (option_map (text_with d) text) text_now differs rest in
     (suc behind.0, behind.1 ∙ sym (tree_after-more d (take behind.0 ds) tree))
@@ -194,9 +204,23 @@ tree_with-put line (Some tree) = refl
 
 pub IsBegun-lines : (s : Stop) (lines : List (List ℕ)) (tree tree_now : Option Tree) (text text_now : Option (List ℕ)) →
     IsBegun s (map Put lines) tree tree_now text text_now → tree_now ≡ tree
-IsBegun-lines s [] tree tree_now text text_now same = same.0
-IsBegun-lines s (line ∷ lines) tree tree_now text text_now (inl (inl same)) = same.0
-IsBegun-lines s (line ∷ lines) tree tree_now text text_now (inl (inr some)) = (some_put s line tree tree_now text text_now some).0
+IsBegun-lines s [] tree tree_now text text_now behind = (untouched_behind s tree tree_now text text_now behind).0
+IsBegun-lines s (line ∷ lines) tree tree_now text text_now (inl part) = (part_of_line s line tree tree_now text text_now part).0
 IsBegun-lines s (line ∷ lines) tree tree_now text text_now (inr rest) =
     IsBegun-lines s lines (option_map (tree_with (Put line)) tree) tree_now (option_map (text_with (Put line)) text) text_now rest
     ∙ tree_with-put line tree
+
+-- a fault of the files never stops lines alone
+pub IsBegun-lines-fault : (lines : List (List ℕ)) (tree tree_now : Option Tree) (text text_now : Option (List ℕ)) →
+    IsBegun stop.FileFault (map Put lines) tree tree_now text text_now → ⊥
+IsBegun-lines-fault [] tree tree_now text text_now behind = behind
+IsBegun-lines-fault (line ∷ lines) tree tree_now text text_now (inl part) = part
+IsBegun-lines-fault (line ∷ lines) tree tree_now text text_now (inr rest) =
+    IsBegun-lines-fault lines (option_map (tree_with (Put line)) tree) tree_now (option_map (text_with (Put line)) text) text_now rest
+
+-- any other stop leaves one line begun where a first part of it was put
+pub IsBegun-line : (s : Stop) → s ≢ stop.FileFault → (line : List ℕ) (tree tree_now : Option Tree) (text text_now : Option (List ℕ)) →
+    tree_now ≡ tree → GotPrefix text text_now line → IsBegun s (Put line ∷ []) tree tree_now text text_now
+IsBegun-line stop.FileFault differs line tree tree_now text text_now same part = absurd (differs refl)
+IsBegun-line stop.SinkFault differs line tree tree_now text text_now same part = inl (same, part)
+IsBegun-line stop.NoMemory differs line tree tree_now text text_now same part = inl (same, part)

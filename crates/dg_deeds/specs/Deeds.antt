@@ -39,21 +39,25 @@ lines_in (Put line ∷ deeds) = line ∷ lines_in deeds
 abbrev pub IsUntouched : Option Tree → Option Tree → Option (List ℕ) → Option (List ℕ) → Type 0
 IsUntouched tree tree_now text text_now = (tree_now ≡ tree) × (text_now ≡ text)
 
--- some of a deed is done: what a failed write leaves, with the bytes as they were, or a first part of a line, with
--- the tree as it was. A write for which there is no memory leaves nothing
-abbrev pub IsSomeOf : Stop → Deed → Option Tree → Option Tree → Option (List ℕ) → Option (List ℕ) → Type 0
-IsSomeOf stop.FileFault (Write path bytes) tree tree_now text text_now = IsLeftByFailure tree tree_now path bytes × (text_now ≡ text)
-IsSomeOf stop.SinkFault (Put line) tree tree_now text text_now = (tree_now ≡ tree) × GotPrefix text text_now line
-IsSomeOf stop.NoMemory (Put line) tree tree_now text text_now = (tree_now ≡ tree) × GotPrefix text text_now line
-IsSomeOf _ _ tree tree_now text text_now = ⊥
-
--- a part of a deed is done, be it nothing
+-- a part of a deed is done. A fault of the files stops at a write, and leaves what a failed write leaves, with the bytes
+-- as they were; a fault of the sink stops at a line, and leaves a first part of it, with the tree as it was. Want of
+-- memory stops at a line in the same way, and at a write before any of it is done
 abbrev pub IsPartOf : Stop → Deed → Option Tree → Option Tree → Option (List ℕ) → Option (List ℕ) → Type 0
-IsPartOf s deed tree tree_now text text_now = IsUntouched tree tree_now text text_now ⊎ IsSomeOf s deed tree tree_now text text_now
+IsPartOf stop.FileFault (Write path bytes) tree tree_now text text_now = IsLeftByFailure tree tree_now path bytes × (text_now ≡ text)
+IsPartOf stop.FileFault (Put line) tree tree_now text text_now = ⊥
+IsPartOf stop.SinkFault (Write path bytes) tree tree_now text text_now = ⊥
+IsPartOf stop.SinkFault (Put line) tree tree_now text text_now = (tree_now ≡ tree) × GotPrefix text text_now line
+IsPartOf stop.NoMemory (Write path bytes) tree tree_now text text_now = IsUntouched tree tree_now text text_now
+IsPartOf stop.NoMemory (Put line) tree tree_now text text_now = (tree_now ≡ tree) × GotPrefix text text_now line
+
+-- all is done, and what stopped the run is want of memory behind it
+abbrev pub IsBehindAll : Stop → Option Tree → Option Tree → Option (List ℕ) → Option (List ℕ) → Type 0
+IsBehindAll stop.NoMemory tree tree_now text text_now = IsUntouched tree tree_now text text_now
+IsBehindAll _ tree tree_now text text_now = ⊥
 
 -- the first of the deeds are done, and of the next one a part
 abbrev pub IsBegun : Stop → List Deed → Option Tree → Option Tree → Option (List ℕ) → Option (List ℕ) → Type 0
-IsBegun s [] tree tree_now text text_now = IsUntouched tree tree_now text text_now
+IsBegun s [] tree tree_now text text_now = IsBehindAll s tree tree_now text text_now
 IsBegun s (deed ∷ deeds) tree tree_now text text_now =
     IsPartOf s deed tree tree_now text text_now
     ⊎ IsBegun s deeds (option_map (tree_with deed) tree) tree_now (option_map (text_with deed) text) text_now

@@ -15,10 +15,10 @@ pub enum Deed {
 /// Why not all was done.
 #[derive(Clone, Copy, PartialEq, Eq, Debug)]
 pub enum Stop {
-    /// A call of the files failed.
+    /// A call of the files failed, at the write of a file.
     FileFault,
-    /// A call of the sink failed.
+    /// A call of the sink failed, at a line.
     SinkFault,
-    /// Memory was wanted.
+    /// Memory was wanted, at a deed or behind the last one.
     NoMemory,
 }

@@ -11,7 +11,8 @@ use dg_files::{Files, Sink};
 use std::alloc::Global;
 
 /// Does the deeds, one after another, and stops at the first one that isn't done to its end. Nothing behind that one is
-/// begun, and nothing is tried again.
+/// begun, and nothing is tried again. A fault of the files stops at a write, and one of the sink at a line; want of memory
+/// stops at either, at a write before any of it is done.
 ///
 /// A fault is told only where that count of failures rose, or stands at its greatest, 2^64 - 1, where a failure can't
 /// be told from none. In time linear in the bytes, beside what the files and the sink take for their calls.

@@ -41,3 +41,9 @@ pub fn lines_leave_the_tree()
     ensures part { (s : Stop) (lines : List (List ℕ)) (tree tree_now : Option Tree) (text text_now : Option (List ℕ)) →
         IsBegun s (map Put lines) tree tree_now text text_now → tree_now ≡ tree }
 {}
+
+/// Lines alone are never cut off by a fault of the files. It does nothing.
+pub fn lines_have_no_file_fault()
+    ensures { (lines : List (List ℕ)) (tree tree_now : Option Tree) (text text_now : Option (List ℕ)) →
+        ¬ IsBegun FileFault (map Put lines) tree tree_now text text_now }
+{}

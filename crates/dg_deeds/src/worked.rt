@@ -27,3 +27,12 @@ pub fn needs_the_file_first()
     ensures memory { ¬ IsBegun stop.NoMemory two_builds (Some tree_before) (Some tree_before) (Some []) (Some (codes "1: a ")) }
     ensures file { ¬ IsBegun stop.FileFault two_builds (Some tree_before) (Some tree_before) (Some []) (Some (codes "1: a ")) }
 {}
+
+/// A fault stops at a deed of its own: one of the sink at a line, so the file before it is written by then, and one of the
+/// files at a file, so no line is there in part. Want of memory may stop before anything is done, and behind all.
+pub fn stops_at_its_own_deed()
+    ensures sink { ¬ IsBegun stop.SinkFault two_builds (Some tree_before) (Some tree_before) (Some []) (Some []) }
+    ensures file { ¬ IsBegun stop.FileFault two_builds (Some tree_before) (Some tree_behind) (Some []) (Some (codes "1: a 2:")) }
+    ensures first { IsBegun stop.NoMemory two_builds (Some tree_before) (Some tree_before) (Some []) (Some []) }
+    ensures last { IsBegun stop.NoMemory two_builds (Some tree_before) (Some tree_behind) (Some []) (Some (codes "1: a 2: b ")) }
+{}
