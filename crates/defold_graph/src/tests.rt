@@ -11,8 +11,6 @@ use std::test::Fail;
 
 const FOLDER: &str = "scripts";
 
-const NOT_BUILT: &str = "error: not built\n";
-
 fn status_in<L: Ledger, R: rt::Files + AllocGlobal + Copy>(
     rt: R,
     words: &[String],
@@ -66,7 +64,12 @@ fn scripts_in_a_folder_are_played_or_refused(rt: HostRuntime) -> Result<(), Fail
         ("make Num \n", 3, "error: script line 1 Arity\n"),
         ("undo\n", 0, "1: NothingToUndo\n"),
         ("evict 1\n", 0, "1: ok\n"),
-        ("build c\n", 3, NOT_BUILT),
+        ("build c\n", 0, "1: NoName\n"),
+        (
+            "make GameObject g\nset g.path \"/g.go\"\nbuild g\n",
+            0,
+            "1: ok\n2: ok\n3: built 1\n",
+        ),
         ("ask now s.total\nmake Sum s\n", 0, "1: NoName\n2: ok\n"),
         (
             "begin\nmake Sum s\nset s.value 1\nend\n",

@@ -1,31 +1,64 @@
--- What a put of all lines says of a whole run.
-use Rattle.std.proofs.Common.{◌≡◌, ◌⊎◌, List, ℕ, zero, suc, [], take, Option, Some, None, refl, sym, ap, ◌∙◌, subst, inl, inr, arith}
+-- What deeds that are done, and a put of all lines, say of a whole run.
+use Rattle.std.proofs.Common.{◌≡◌, ◌⊎◌, List, ℕ, [], ◌∷◌, ◌++◌, map, Option, Some, None, refl, sym, ap, ◌∙◌, subst, inl, inr, arith, take, zero, suc, ◌+◌, ◌-◌, ◌^◌, ◌≤◌, le_trans}
+use Rattle.std.proofs.Math.Nat.{le-min, min-le_left, min-le_right}
 use Rattle.std.proofs.lemmas.List.{append-nil}
 use Rattle.std.specs.Prelude.{Result, Ok, Err}
+use Rattle.std.specs.Option.{option_map}
+use Rattle.dg_base.specs.Tables.{Tables}
+use Rattle.dg_base.specs.declared.refusal.Refusal.TheVariants as refusal
+use Rattle.dg_deeds.specs.declared.deed.Deed.{Deed}
+use Rattle.dg_deeds.specs.declared.deed.Deed.TheVariants.{Put}
+use Rattle.dg_deeds.specs.declared.deed.Stop.{Stop}
+use Rattle.dg_deeds.specs.declared.deed.Stop.TheVariants as stop
+use Rattle.dg_deeds.specs.Deeds.{IsBegun, IsUntouched, text_after, tree_after}
+use Rattle.dg_deeds.specs.Printed.{GotAll, GotPrefix, text_of}
+use Rattle.dg_deeds.proofs.Parts.{IsBegun-line, IsBegun-lines, IsBegun-lines-fault, text_after-lines, lines_in-lines, tree_after-lines}
+use Rattle.dg_files.specs.Outcome.{Rose}
+use Rattle.dg_files.specs.Tree.{Tree}
 use Rattle.dg_words.specs.declared.task.Task.{Task}
 use Rattle.dg_words.specs.declared.task.Usage.{Usage}
 use Rattle.dg_words.specs.Paths.{usage as no_task}
-use Rattle.std.specs.Option.{option_map}
-use Rattle.dg_base.specs.declared.refusal.Refusal.TheVariants as refusal
-use Rattle.dg_files.specs.Tree.{Tree}
 use Rattle.dg_tool.specs.declared.status.Status.{Status}
 use Rattle.dg_tool.specs.declared.status.Status.TheVariants as status
 use Rattle.dg_tool.specs.declared.halt.Halt.{Halt}
 use Rattle.dg_tool.specs.declared.halt.Halt.TheVariants as halt
 use Rattle.dg_tool.specs.declared.output.Output.{Output}
-use Rattle.dg_tool.specs.Halts.{code_of, status_of, halt_lines}
-use Rattle.dg_tool.specs.Out.{Out, all_written, halted}
-use Rattle.dg_tool.specs.Printed.{GotAll, GotPrefix}
-use Rattle.dg_tool.specs.Statement.{IsDue, EndsAs, IsOutput, IsPut}
+use Rattle.dg_tool.specs.Halts.{code_of, cut_status, halt_lines, status_of}
+use Rattle.dg_tool.specs.Out.{Out, halted, only_lines}
+use Rattle.dg_tool.specs.Seen.{deeds_of}
+use Rattle.dg_tool.specs.Statement.{AreDone, IsDue, EndsAs, IsOutput, IsPut}
 
--- nothing is written
-none_written : (t : Option Tree) → t ≡ option_map (all_written []) t
-none_written None = refl
-none_written (Some t) = refl
+-- ---- statuses
 
-not_due : {P : Type 0} (s : Status) → IsDue s → (s ≡ status.SinkFault) ⊎ (s ≡ status.NoMemory) → P
-not_due s d (inl is) = absurd (subst IsDue is d)
-not_due s d (inr is) = absurd (subst IsDue is d)
+differs : {a b : Status} → a ≡ b → code_of a ≡ code_of b
+differs is = ap code_of is
+
+no_cut_due : (s : Stop) → IsDue (cut_status s) → ⊥
+no_cut_due stop.FileFault d = d
+no_cut_due stop.SinkFault d = d
+no_cut_due stop.NoMemory d = d
+
+not_done-cut : (s : Stop) → status.Done ≡ cut_status s → ⊥
+not_done-cut stop.FileFault is = omega (arith, differs is)
+not_done-cut stop.SinkFault is = omega (arith, differs is)
+not_done-cut stop.NoMemory is = omega (arith, differs is)
+
+not_usage-cut : (s : Stop) → status.Usage ≡ cut_status s → ⊥
+not_usage-cut stop.FileFault is = omega (arith, differs is)
+not_usage-cut stop.SinkFault is = omega (arith, differs is)
+not_usage-cut stop.NoMemory is = omega (arith, differs is)
+
+-- a status tells why a run was cut off
+one_stop : (s r : Stop) → cut_status s ≡ cut_status r → s ≡ r
+one_stop stop.FileFault stop.FileFault is = refl
+one_stop stop.FileFault stop.SinkFault is = absurd (omega (arith, differs is))
+one_stop stop.FileFault stop.NoMemory is = absurd (omega (arith, differs is))
+one_stop stop.SinkFault stop.FileFault is = absurd (omega (arith, differs is))
+one_stop stop.SinkFault stop.SinkFault is = refl
+one_stop stop.SinkFault stop.NoMemory is = absurd (omega (arith, differs is))
+one_stop stop.NoMemory stop.FileFault is = absurd (omega (arith, differs is))
+one_stop stop.NoMemory stop.SinkFault is = absurd (omega (arith, differs is))
+one_stop stop.NoMemory stop.NoMemory is = refl
 
 -- no lines are due, and none are put
 got_none : (before now : Option (List ℕ)) → GotAll before now [] → now ≡ before
@@ -39,7 +72,6 @@ none_of_none (suc n) = refl
 prefix_of_none : (before now : Option (List ℕ)) → GotPrefix before now [] → now ≡ before
 prefix_of_none before now part = got_none before now (subst (GotAll before now) (none_of_none part.0) part.1)
 
--- which statuses end what
 not_usage : (h : Halt) → status_of h ≡ status.Usage → ⊥
 not_usage halt.NoInput is = omega (arith, ap code_of is)
 not_usage (halt.BadLine line code) is = omega (arith, ap code_of is)
@@ -72,6 +104,108 @@ is_file_fault halt.NotBuilt is = absurd (omega (arith, ap code_of is))
 is_file_fault (halt.TooLarge what) is = absurd (omega (arith, ap code_of is))
 is_file_fault halt.FileFault is = refl
 
+-- a count that rose behind another rose behind what is no greater
+pub rose-after : (a b c : ℕ) → a ≤ b → Rose b c → Rose a c
+rose-after a b c le rose =
+    let more : a + 1 ≤ b + 1 = omega (arith, le) in
+    le_trans (le-min (le_trans (min-le_left (a + 1) (2 ^ 64 - 1)) more) (min-le_right (a + 1) (2 ^ 64 - 1))) rose
+
+-- ---- lines alone
+
+tree_told : (lines : List (List ℕ)) (tree : Option Tree) → option_map (tree_after (map Put lines)) tree ≡ tree
+tree_told lines None = refl
+tree_told lines (Some tree) = ap Some (tree_after-lines lines tree)
+
+text_told : (lines : List (List ℕ)) (text : Option (List ℕ)) → option_map (text_after (map Put lines)) text ≡ option_map (λ bytes. bytes ++ text_of lines) text
+text_told lines None = refl
+text_told lines (Some text) = ap Some (text_after-lines (map Put lines) text ∙ ap (λ (ls : List (List ℕ)). text ++ text_of ls) (lines_in-lines lines))
+
+-- a put that is cut off, as a stop
+put_stop : {ended : Status} → (ended ≡ status.SinkFault) ⊎ (ended ≡ status.NoMemory) → (s : Stop) × (ended ≡ cut_status s) × (s ≡ stop.FileFault → ⊥)
+put_stop (inl is) = (stop.SinkFault, is, λ e. omega (arith, ap code_of (ap cut_status e)))
+put_stop (inr is) = (stop.NoMemory, is, λ e. omega (arith, ap code_of (ap cut_status e)))
+
+module _ (ended : Status) (tree tree_now : Option Tree) (same : tree_now ≡ tree) (before now : Option (List ℕ)) where
+  -- one line that is put, as deeds that are done
+  pub line_done : (due : Status) (line : List ℕ) → IsPut due (line ∷ []) ended before now → AreDone due (map Put (line ∷ [])) ended tree tree_now before now
+  line_done due line (inl all) =
+      inl (all.0, same ∙ sym (tree_told (line ∷ []) tree), all.1 ∙ sym (text_told (line ∷ []) before))
+  line_done due line (inr part) =
+      let s = put_stop part.0 in
+      inr (s.0, s.1, IsBegun-line s.0 s.2 line tree tree_now before now same (subst (GotPrefix before now) (append-nil line) part.1))
+
+-- ---- deeds
+
+module _ (ended : Status) (tree tree_now : Option Tree) (before now : Option (List ℕ)) where
+  -- a run ends as its deeds
+  pub deeds_end : (due : Out) → IsDue due.status → AreDone due.status due.deeds ended tree tree_now before now → EndsAs due ended tree tree_now before now
+  deeds_end due is (inl all) = record {
+    done = λ d. record { status_due = all.0; files_due = all.1; text_due = all.2 };
+    cut_off = λ s cut. absurd (no_cut_due s (subst IsDue (sym all.0 ∙ cut) is));
+  }
+  deeds_end due is (inr part) = record {
+    done = λ d. absurd (no_cut_due part.0 (subst IsDue part.1 d));
+    cut_off = λ s cut. inr (subst (λ r. IsBegun r due.deeds tree tree_now before now) (one_stop part.0 s (sym part.1 ∙ cut)) part.2);
+  }
+
+  -- nothing is done of what is due
+  pub nothing_ends : (due : Out) (s : Stop) → ended ≡ cut_status s → IsUntouched tree tree_now before now → EndsAs due ended tree tree_now before now
+  nothing_ends due s is same = record {
+    done = λ d. absurd (no_cut_due s (subst IsDue is d));
+    cut_off = λ r cut. inl same;
+  }
+
+  module _ (t : Tables) (due : Out) (o : Output) (told : IsOutput t (Ok o) due) (done : AreDone status.Done (deeds_of t o) ended tree tree_now before now) where
+    pub done_ends : EndsAs due ended tree tree_now before now
+    done_ends =
+        deeds_end due (subst IsDue (sym told.0) tt)
+        (subst (λ s. AreDone s due.deeds ended tree tree_now before now) (sym told.0) (subst (λ (ds : List Deed). AreDone status.Done ds ended tree tree_now before now) (sym told.1) done))
+
+  module _ (ds : List Deed) (done : AreDone status.Done ds ended tree tree_now before now) where
+    pub done_not_usage : ended ≡ status.Usage → ⊥
+    done_not_usage is = by_end done
+      where
+        by_end : AreDone status.Done ds ended tree tree_now before now → ⊥
+        by_end (inl all) = omega (arith, ap code_of (sym all.0 ∙ is))
+        by_end (inr part) = not_usage-cut part.0 (sym is ∙ part.1)
+
+    pub done_complete : (due : Out) → due.status ≡ status.Done → (ended ≡ status.FileFault → ⊥) → (ended ≡ status.SinkFault → ⊥) → (ended ≡ due.status) ⊎ (ended ≡ status.NoMemory)
+    done_complete due is files sink = by_end done
+      where
+        by_stop : (s : Stop) → ended ≡ cut_status s → (ended ≡ due.status) ⊎ (ended ≡ status.NoMemory)
+        by_stop stop.FileFault e = absurd (files e)
+        by_stop stop.SinkFault e = absurd (sink e)
+        by_stop stop.NoMemory e = inr e
+
+        by_end : AreDone status.Done ds ended tree tree_now before now → (ended ≡ due.status) ⊎ (ended ≡ status.NoMemory)
+        by_end (inl all) = inl (all.0 ∙ sym is)
+        by_end (inr part) = by_stop part.0 part.1
+
+  -- lines alone leave the tree, and are never cut off by a fault of the files
+  module _ (lines : List (List ℕ)) (done : AreDone status.Done (map Put lines) ended tree tree_now before now) where
+    pub lines_same : tree_now ≡ tree
+    lines_same = by_end done
+      where
+        by_end : AreDone status.Done (map Put lines) ended tree tree_now before now → tree_now ≡ tree
+        by_end (inl all) = all.1 ∙ tree_told lines tree
+        by_end (inr part) = IsBegun-lines part.0 lines tree tree_now before now part.2
+
+    pub lines_no_fault : ended ≡ status.FileFault → ⊥
+    lines_no_fault is = by_end done
+      where
+        by_end : AreDone status.Done (map Put lines) ended tree tree_now before now → ⊥
+        by_end (inl all) = omega (arith, ap code_of (sym all.0 ∙ is))
+        by_end (inr part) =
+            IsBegun-lines-fault lines tree tree_now before now
+            (subst (λ s. IsBegun s (map Put lines) tree tree_now before now) (one_stop part.0 stop.FileFault (sym part.1 ∙ is)) part.2)
+
+-- ---- a run that ended before
+
+-- what is put of it
+nothing_got : {s : Status} (ended : Status) (before now : Option (List ℕ)) → IsPut s [] ended before now → now ≡ before
+nothing_got ended before now (inl all) = got_none before now all.1
+nothing_got ended before now (inr part) = prefix_of_none before now part.1
+
 module _ (ended : Status) (before now : Option (List ℕ)) where
   -- a status that isn't that of the sink or of want of memory
   not_cut : (P : Status → Type 0) → (P status.SinkFault → ⊥) → (P status.NoMemory → ⊥) → (ended ≡ status.SinkFault) ⊎ (ended ≡ status.NoMemory) → P ended → ⊥
@@ -91,72 +225,51 @@ module _ (ended : Status) (before now : Option (List ℕ)) where
   put_file_fault h (inr part) is =
       absurd (not_cut (λ s. s ≡ status.FileFault) (λ s. omega (arith, ap code_of s)) (λ s. omega (arith, ap code_of s)) part.0 is)
 
-  put_nothing : {s : Status} → IsPut s [] ended before now → now ≡ before
-  put_nothing (inl all) = got_none before now all.1
-  put_nothing (inr part) = prefix_of_none before now part.1
-
   -- where the files failed, nothing was put
   pub nothing_put : (h : Halt) → IsPut (status_of h) (halt_lines h) ended before now → ended ≡ status.FileFault → now ≡ before
-  nothing_put h put is = let failed = put_file_fault h put is in put_nothing (subst (λ k. IsPut (status_of k) (halt_lines k) ended before now) failed put)
+  nothing_put h put is =
+      let failed = put_file_fault h put is in
+      nothing_got ended before now (subst (λ k. IsPut (status_of k) (halt_lines k) ended before now) failed put)
 
-  module _ (due : Out) (tree_before tree_now : Option Tree) (same : tree_now ≡ tree_before) where
-    put_ends : IsDue due.status → due.files ≡ [] → IsPut due.status due.lines ended before now → EndsAs due ended tree_before tree_now before now
-    put_ends d files (inl all) = record {
-      done = λ e. record {
-        status_due = all.0;
-        lines_due = all.1;
-        files_due = same ∙ none_written tree_before ∙ ap (λ fs. option_map (all_written fs) tree_before) (sym files);
-      };
-      cut_off = λ cut. not_due ended (subst IsDue (sym all.0) d) cut;
-    }
-    put_ends d files (inr part) = record {
-      done = λ e. not_due ended e part.0;
-      cut_off = λ cut. part.1;
-    }
+  module _ (tree tree_now : Option Tree) (same : tree_now ≡ tree) where
+    halt_ends : (due : Out) (h : Halt) (line : List ℕ) → due ≡ halted h → IsDue (status_of h) → halt_lines h ≡ line ∷ [] → IsPut (status_of h) (halt_lines h) ended before now →
+        EndsAs due ended tree tree_now before now
+    halt_ends due h line is d one put =
+        subst (λ (o : Out). EndsAs o ended tree tree_now before now) (sym (is ∙ ap (only_lines (status_of h)) one))
+        (deeds_end ended tree tree_now before now (only_lines (status_of h) (line ∷ [])) d
+        (line_done ended tree tree_now same before now (status_of h) line (subst (λ (ls : List (List ℕ)). IsPut (status_of h) ls ended before now) one put)))
 
-    -- a run that is done
-    pub done_ends : (o : Output) → IsOutput (Ok o) due → IsPut status.Done o.lines ended before now →
-        EndsAs due ended tree_before tree_now before now
-    done_ends o is put =
-        put_ends (subst IsDue (sym is.0) tt) is.2
-        (subst (λ s. IsPut s due.lines ended before now) (sym is.0) (subst (λ (ls : List (List ℕ)). IsPut status.Done ls ended before now) (sym is.1) put))
+    pub halted_ends : (t : Tables) (due : Out) (h : Halt) → IsOutput t (Err (refusal.Because h)) due → IsPut (status_of h) (halt_lines h) ended before now →
+        EndsAs due ended tree tree_now before now
+    halted_ends t due halt.NoInput is put = halt_ends due halt.NoInput _ is tt refl put
+    halted_ends t due (halt.BadLine line code) is put = halt_ends due (halt.BadLine line code) _ is tt refl put
+    halted_ends t due (halt.BadFile line code) is put = halt_ends due (halt.BadFile line code) _ is tt refl put
+    halted_ends t due halt.NotBuilt is put = halt_ends due halt.NotBuilt _ is tt refl put
+    halted_ends t due (halt.TooLarge what) is put = halt_ends due (halt.TooLarge what) _ is tt refl put
+    halted_ends t due halt.FileFault is (inl all) =
+        nothing_ends ended tree tree_now before now due stop.FileFault all.0 (same, nothing_got ended before now (inl all))
+    halted_ends t due halt.FileFault is (inr part) =
+        let s = put_stop part.0 in
+        nothing_ends ended tree tree_now before now due s.0 s.1 (same, prefix_of_none before now part.1)
 
-    halt_ends : (h : Halt) → due ≡ halted h → IsDue (status_of h) → IsPut (status_of h) (halt_lines h) ended before now →
-        EndsAs due ended tree_before tree_now before now
-    halt_ends h is d put =
-        put_ends (subst (λ (o : Out). IsDue o.status) (sym is) d) (ap (λ (o : Out). o.files) is)
-        (subst (λ (o : Out). IsPut o.status o.lines ended before now) (sym is) put)
-
-    -- a run that ended before
-    pub halted_ends : (h : Halt) → IsOutput (Err (refusal.Because h)) due → IsPut (status_of h) (halt_lines h) ended before now →
-        EndsAs due ended tree_before tree_now before now
-    halted_ends halt.NoInput is put = halt_ends halt.NoInput is tt put
-    halted_ends (halt.BadLine line code) is put = halt_ends (halt.BadLine line code) is tt put
-    halted_ends (halt.BadFile line code) is put = halt_ends (halt.BadFile line code) is tt put
-    halted_ends halt.NotBuilt is put = halt_ends halt.NotBuilt is tt put
-    halted_ends (halt.TooLarge what) is put = halt_ends (halt.TooLarge what) is tt put
-    halted_ends halt.FileFault is (inl all) = record {
-      done = λ e. absurd (subst IsDue all.0 e);
-      cut_off = λ cut. (0, all.1);
-    }
-    halted_ends halt.FileFault is (inr part) = record {
-      done = λ e. not_due ended e part.0;
-      cut_off = λ cut. (0, subst (GotAll before now) (none_of_none part.1.0) part.1.1);
-    }
+    -- words that say no task
+    pub usage_ends : (line : List ℕ) → IsPut status.Usage (line ∷ []) ended before now → EndsAs (only_lines status.Usage (line ∷ [])) ended tree tree_now before now
+    usage_ends line put =
+        deeds_end ended tree tree_now before now (only_lines status.Usage (line ∷ [])) tt (line_done ended tree tree_now same before now status.Usage line put)
 
 -- the status is the one that is due, where neither the files nor the sink failed, or memory was wanted
-halted_status : (due : Out) (h : Halt) → IsOutput (Err (refusal.Because h)) due → (h ≡ halt.FileFault → ⊥) → status_of h ≡ due.status
-halted_status due halt.NoInput is failed = ap (λ (o : Out). o.status) (sym is)
-halted_status due (halt.BadLine line code) is failed = ap (λ (o : Out). o.status) (sym is)
-halted_status due (halt.BadFile line code) is failed = ap (λ (o : Out). o.status) (sym is)
-halted_status due halt.NotBuilt is failed = ap (λ (o : Out). o.status) (sym is)
-halted_status due (halt.TooLarge what) is failed = ap (λ (o : Out). o.status) (sym is)
-halted_status due halt.FileFault is failed = absurd (failed refl)
+halted_status : (t : Tables) (due : Out) (h : Halt) → IsOutput t (Err (refusal.Because h)) due → (h ≡ halt.FileFault → ⊥) → status_of h ≡ due.status
+halted_status t due halt.NoInput is failed = ap (λ (o : Out). o.status) (sym is)
+halted_status t due (halt.BadLine line code) is failed = ap (λ (o : Out). o.status) (sym is)
+halted_status t due (halt.BadFile line code) is failed = ap (λ (o : Out). o.status) (sym is)
+halted_status t due halt.NotBuilt is failed = ap (λ (o : Out). o.status) (sym is)
+halted_status t due (halt.TooLarge what) is failed = ap (λ (o : Out). o.status) (sym is)
+halted_status t due halt.FileFault is failed = absurd (failed refl)
 
-pub halted_complete : (due : Out) (h : Halt) (ended : Status) (before now : Option (List ℕ)) → IsOutput (Err (refusal.Because h)) due →
+pub halted_complete : (t : Tables) (due : Out) (h : Halt) (ended : Status) (before now : Option (List ℕ)) → IsOutput t (Err (refusal.Because h)) due →
     IsPut (status_of h) (halt_lines h) ended before now → (h ≡ halt.FileFault → ⊥) → (ended ≡ status.SinkFault → ⊥) → (ended ≡ due.status) ⊎ (ended ≡ status.NoMemory)
-halted_complete due h ended before now is (inl all) files sink = inl (all.0 ∙ halted_status due h is files)
-halted_complete due h ended before now is (inr part) files sink = wants part.0 where
+halted_complete t due h ended before now is (inl all) files sink = inl (all.0 ∙ halted_status t due h is files)
+halted_complete t due h ended before now is (inr part) files sink = wants part.0 where
   wants : (ended ≡ status.SinkFault) ⊎ (ended ≡ status.NoMemory) → (ended ≡ due.status) ⊎ (ended ≡ status.NoMemory)
   wants (inl s) = absurd (sink s)
   wants (inr m) = inr m
@@ -165,39 +278,6 @@ halted_complete due h ended before now is (inr part) files sink = wants part.0 w
 pub sink_failed : (h : Halt) {Rises : Type 0} → (status_of h ≡ status.SinkFault) ⊎ Rises → Rises
 sink_failed h (inl is) = absurd (not_sink_fault h is)
 sink_failed h (inr rises) = rises
-
--- ---- a run that is done
-
-done_sink : {Rises : Type 0} → (status.Done ≡ status.SinkFault) ⊎ Rises → Rises
-done_sink (inl is) = absurd (omega (arith, ap code_of is))
-done_sink (inr rises) = rises
-
-pub sink_of_done : {P Rises : Type 0} → (P → (status.Done ≡ status.SinkFault) ⊎ Rises) → P → Rises
-sink_of_done cause p = done_sink (cause p)
-
-module _ (lines : List (List ℕ)) (ended : Status) (before now : Option (List ℕ)) (put : IsPut status.Done lines ended before now) where
-  -- it ends with no other status than these
-  done_not : (s : Status) → (status.Done ≡ s → ⊥) → (status.SinkFault ≡ s → ⊥) → (status.NoMemory ≡ s → ⊥) → ended ≡ s → ⊥
-  done_not s done sink memory is = by_put put
-    where
-      by_put : IsPut status.Done lines ended before now → ⊥
-      by_put (inl all) = done (sym all.0 ∙ is)
-      by_put (inr (inl cut, part)) = sink (sym cut ∙ is)
-      by_put (inr (inr cut, part)) = memory (sym cut ∙ is)
-
-  pub done_not_usage : ended ≡ status.Usage → ⊥
-  done_not_usage = done_not status.Usage (λ e. omega (arith, ap code_of e)) (λ e. omega (arith, ap code_of e)) (λ e. omega (arith, ap code_of e))
-
-  pub done_not_file_fault : ended ≡ status.FileFault → ⊥
-  done_not_file_fault = done_not status.FileFault (λ e. omega (arith, ap code_of e)) (λ e. omega (arith, ap code_of e)) (λ e. omega (arith, ap code_of e))
-
-  pub done_complete : (due : Out) → due.status ≡ status.Done → (ended ≡ status.SinkFault → ⊥) → (ended ≡ due.status) ⊎ (ended ≡ status.NoMemory)
-  done_complete due is sink = by_put put
-    where
-      by_put : IsPut status.Done lines ended before now → (ended ≡ due.status) ⊎ (ended ≡ status.NoMemory)
-      by_put (inl all) = inl (all.0 ∙ sym is)
-      by_put (inr (inl cut, part)) = absurd (sink cut)
-      by_put (inr (inr cut, part)) = inr cut
 
 pub not_memory : status.NoMemory ≡ status.Done → ⊥
 not_memory is = omega (arith, ap code_of is)

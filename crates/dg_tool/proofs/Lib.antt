@@ -1,5 +1,6 @@
-pub mod Sinks
 pub mod TextSizes
+pub mod Taking
+pub mod Pieces
 pub mod LineCounts
 pub mod Endings
 pub mod Tellings

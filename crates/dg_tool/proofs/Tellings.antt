@@ -2,6 +2,7 @@
 use Rattle.std.proofs.Common.{◌≡◌, Result, Ok, Err, ap, ◌∙◌, subst, sym, true≢false}
 use Rattle.std.specs.Prelude.{IsErr, IsErrAnd}
 use Rattle.dg_base.specs.Refusal.{Gives}
+use Rattle.dg_base.specs.Tables.{Tables}
 use Rattle.dg_base.specs.declared.refusal.Refusal.{Refusal}
 use Rattle.dg_base.specs.declared.refusal.Refusal.TheVariants as refusal
 use Rattle.dg_tool.specs.declared.halt.Halt.{Halt}
@@ -54,11 +55,11 @@ module _ {X Y : Type 0} (view : X → Y) where
 
   -- and what the run leaves of it
   module _ (on : Result Y Halt → Out) (stops : (h : Halt) → on (Err h) ≡ halted h) where
-    pub told-out : (e : Refusal Halt) (given : Result Y Halt) → Tells view (Err e) given → IsOutput (Err e) (on given)
-    told-out refusal.NoMemory given is = tt
-    told-out (refusal.Because halt.FileFault) given is = tt
-    told-out (refusal.Because halt.NoInput) given is = ap on is ∙ stops halt.NoInput
-    told-out (refusal.Because (halt.BadLine line code)) given is = ap on is ∙ stops (halt.BadLine line code)
-    told-out (refusal.Because (halt.BadFile line code)) given is = ap on is ∙ stops (halt.BadFile line code)
-    told-out (refusal.Because halt.NotBuilt) given is = ap on is ∙ stops halt.NotBuilt
-    told-out (refusal.Because (halt.TooLarge what)) given is = ap on is ∙ stops (halt.TooLarge what)
+    pub told-out : (t : Tables) (e : Refusal Halt) (given : Result Y Halt) → Tells view (Err e) given → IsOutput t (Err e) (on given)
+    told-out t refusal.NoMemory given is = tt
+    told-out t (refusal.Because halt.FileFault) given is = tt
+    told-out t (refusal.Because halt.NoInput) given is = ap on is ∙ stops halt.NoInput
+    told-out t (refusal.Because (halt.BadLine line code)) given is = ap on is ∙ stops (halt.BadLine line code)
+    told-out t (refusal.Because (halt.BadFile line code)) given is = ap on is ∙ stops (halt.BadFile line code)
+    told-out t (refusal.Because halt.NotBuilt) given is = ap on is ∙ stops halt.NotBuilt
+    told-out t (refusal.Because (halt.TooLarge what)) given is = ap on is ∙ stops (halt.TooLarge what)

@@ -1,5 +1,7 @@
 -- How a run ends, and what ends it before a line of its script is put.
 use Rattle.std.specs.Prelude.{ℕ, List, [], ◌∷◌, ◌++◌, codes}
+use Rattle.dg_deeds.specs.declared.deed.Stop.{Stop}
+use Rattle.dg_deeds.specs.declared.deed.Stop.TheVariants as stop
 use Rattle.dg_tool.specs.declared.status.Status.{Status}
 use Rattle.dg_tool.specs.declared.status.Status.TheVariants as status
 use Rattle.dg_tool.specs.declared.halt.Halt.{Halt}
@@ -18,6 +20,12 @@ code_of status.FileFault = 4
 code_of status.SinkFault = 5
 code_of status.NoMemory = 6
 code_of status.TooLarge = 7
+
+-- the status of a run that is cut off
+abbrev pub cut_status : Stop → Status
+cut_status stop.FileFault = status.FileFault
+cut_status stop.SinkFault = status.SinkFault
+cut_status stop.NoMemory = status.NoMemory
 
 abbrev pub status_of : Halt → Status
 status_of halt.NoInput = status.NoInput

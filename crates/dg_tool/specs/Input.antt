@@ -1,5 +1,6 @@
 -- What a run reads of the tree of files: the script, and the project that it begins with.
-use Rattle.std.specs.Prelude.{◌≡◌, ℕ, List, cond, nat_lt, Result, Ok, Err, length}
+use Rattle.std.specs.Prelude.{◌≡◌, ℕ, List, ◌++◌, cond, nat_lt, Result, Ok, Err, codes, length}
+use Rattle.dg_text.specs.Quoted.{quoted}
 use Rattle.dg_base.specs.declared.refusal.Refusal.{Refusal}
 use Rattle.dg_base.specs.declared.refusal.Refusal.TheVariants as refusal
 use Rattle.dg_base.specs.Refusal.{and_then}
@@ -16,7 +17,6 @@ use Rattle.dg_tool.specs.declared.halt.Limit.{Limit}
 use Rattle.dg_tool.specs.declared.halt.Limit.TheVariants as limit
 use Rattle.dg_sources.specs.declared.bad.BadPlace.{BadPlace}
 use Rattle.dg_play.specs.Play.{State}
-use Rattle.dg_tool.specs.Built.{are_built}
 use Rattle.dg_tool.specs.Project.{Project, loaded}
 
 -- a file has at most 1 MiB, and a script 65,536 lines
@@ -43,13 +43,16 @@ in_grammar (Err bad) = Err (halt.BadLine bad.line bad.code)
 abbrev pub commands_in : List ℕ → Result (List Command) Halt
 commands_in bytes = cond (nat_lt max_lines (length (lines_in bytes))) (Err (halt.TooLarge limit.Lines)) (in_grammar (script_in bytes))
 
--- what isn't played yet is looked for after the grammar, in the whole script
-abbrev pub built : List Command → Result (List Command) Halt
-built commands = cond (are_built commands) (Ok commands) (Err halt.NotBuilt)
-
 -- the commands of the script at a path
 abbrev pub script_of : Tree → List ℕ → Result (List Command) Halt
-script_of tree path = and_then (and_then (bytes_of tree limit.Script path) commands_in) built
+script_of tree path = and_then (bytes_of tree limit.Script path) commands_in
+
+-- a build is the run of a script of one line
+abbrev pub build_script : List ℕ → List ℕ
+build_script path = codes "build " ++ quoted path
+
+abbrev pub build_cache : ℕ
+build_cache = 4096
 
 -- what a call that reads files answers: what is given by the tree that they tell. Where a call of the
 -- files failed, or memory was refused, nothing is said

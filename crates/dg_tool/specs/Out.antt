@@ -1,13 +1,18 @@
 -- What the tool does for a tree of files and the words of its command line. What it prints of answers and edits has
 -- no cache and no worker; of the cache it tells the work alone, where the words ask for it.
-use Rattle.std.specs.Prelude.{ℕ, List, [], ◌∷◌, ◌++◌, Bool, cond, nat_lt, true, false, Result, Ok, Err, codes, length, map, fold}
+use Rattle.std.specs.Prelude.{ℕ, List, [], ◌∷◌, ◌++◌, Bool, cond, nat_lt, true, false, Result, Ok, Err, codes, length, map, flat_map}
 use Rattle.dg_base.specs.Tables.{Tables}
 use Rattle.dg_base.specs.Graph.{Graph, empty}
 use Rattle.dg_base.specs.Refusal.{and_then}
 use Rattle.dg_base.specs.declared.answer.Answer.{Answer}
 use Rattle.dg_base.specs.declared.answer.Answer.TheVariants as answer
 use Rattle.dg_base.specs.Value.{value_at}
-use Rattle.dg_files.specs.Tree.{File, Tree, written}
+use Rattle.dg_files.specs.Tree.{Tree}
+use Rattle.dg_deeds.specs.declared.deed.Deed.{Deed}
+use Rattle.dg_deeds.specs.declared.deed.Deed.TheVariants.{Write, Put}
+use Rattle.dg_deeds.specs.Deeds.{lines_in}
+use Rattle.dg_deeds.specs.Printed.{text_of}
+use Rattle.dg_build.specs.declared.target.Target.{Target}
 use Rattle.dg_build.specs.Targets.{targets}
 use Rattle.dg_report.specs.Text.{answer_text}
 use Rattle.dg_tool.specs.declared.status.Status.{Status}
@@ -19,7 +24,7 @@ use Rattle.dg_words.specs.declared.task.Task.{Task}
 use Rattle.dg_words.specs.declared.task.Task.TheVariants.{Run, Check, Build, Gen, Format}
 use Rattle.dg_words.specs.declared.task.Usage.{Usage}
 use Rattle.dg_words.specs.Tasks.{task_in}
-use Rattle.dg_tool.specs.Text.{ok_text, empty_text, no_name_text, no_label_text, missing_text, code_text, refused_text, bad_place_text, size_text, line_full_text, nothing_to_undo_text, nothing_to_redo_text, pin_used_text, pins_full_text, pinned_text, no_pin_text, built_files_text, stats_text, max_text, line_of, text_of}
+use Rattle.dg_tool.specs.Text.{ok_text, empty_text, no_name_text, no_label_text, missing_text, code_text, refused_text, bad_place_text, size_text, line_full_text, nothing_to_undo_text, nothing_to_redo_text, pin_used_text, pins_full_text, pinned_text, no_pin_text, built_files_text, stats_text, max_text, line_of}
 use Rattle.dg_tool.specs.Halts.{status_of, halt_lines, error_line}
 use Rattle.dg_line.specs.Revisions.{Seen}
 use Rattle.dg_editor.specs.Machine.{revisions}
@@ -29,31 +34,32 @@ use Rattle.dg_play.specs.Work.{Work, work_of}
 use Rattle.dg_play.specs.Desk.{answers_in}
 use Rattle.dg_sources.specs.declared.bad.BadPlace.{BadPlace}
 use Rattle.dg_tool.specs.Project.{Project, loaded}
-use Rattle.dg_tool.specs.Input.{Start, script_of, start_of}
+use Rattle.dg_tool.specs.Input.{Start, build_cache, build_script, commands_in, script_of, start_of}
 use Rattle.dg_tool.specs.Format.{formatted_in}
 
--- all that a run does: its status, the lines that it prints, the files that it writes, each with the
--- number of the line whose command writes it, the last graph, the revisions in order, and the answers that
--- were asked for
-pub record Written : Type 0 where
-  pub line : ℕ
-  pub file : File
-
+-- all that a run does: its status, the files that it writes and the lines that it prints, in order, the last graph,
+-- the revisions in order, and the answers that were asked for
 pub record Out : Type 0 where
   pub status : Status
-  pub lines : List (List ℕ)
-  pub files : List Written
+  pub deeds : List Deed
   pub last : Graph
   pub revisions : List Seen
   pub asks : List Ask
 
+-- nothing but these lines
+abbrev pub only_lines : Status → List (List ℕ) → Out
+only_lines s lines = record { status = s; deeds = map Put lines; last = empty; revisions = []; asks = [] }
+
 -- a run that ends before a script is played
 abbrev pub halted : Halt → Out
-halted h = record { status = status_of h; lines = halt_lines h; files = []; last = empty; revisions = []; asks = [] }
+halted h = only_lines (status_of h) (halt_lines h)
 
 -- words that say no task
+abbrev pub usage_lines : List (List ℕ)
+usage_lines = error_line (codes "usage") ∷ []
+
 abbrev pub usage : Out
-usage = record { status = status.Usage; lines = error_line (codes "usage") ∷ []; files = []; last = empty; revisions = []; asks = [] }
+usage = only_lines status.Usage usage_lines
 
 -- the text of an answer: the value of the endpoint by plain evaluation
 abbrev pub ask_text : Tables → List (List ℕ) → Ask → List ℕ
@@ -81,6 +87,22 @@ reply_text t names NoPin = no_pin_text
 reply_text t names (Answers a) = ask_text t names a
 reply_text t names (Builds a) = built_text (value_at t a.revision.graph a.at) names
 
+-- the build files of a value: each stands below the folder of all build files, by its own path
+abbrev pub build_folder : List ℕ
+build_folder = codes "/build/default"
+
+abbrev pub write_of : Target → Deed
+write_of target = Write (build_folder ++ target.path) target.bytes
+
+abbrev pub built_deeds : Answer → List (List ℕ) → List Deed
+built_deeds (answer.Good d) names = map write_of (targets d names)
+built_deeds a names = []
+
+-- what a command writes
+abbrev pub reply_deeds : Tables → List (List ℕ) → Reply → List Deed
+reply_deeds t names (Builds a) = built_deeds (value_at t a.revision.graph a.at) names
+reply_deeds t names _ = []
+
 abbrev pub line_text : Tables → List (List ℕ) → Line → List ℕ
 line_text t names line = line_of line.number (reply_text t names line.reply)
 
@@ -89,25 +111,31 @@ abbrev pub stats_lines : Bool → Work → List (List ℕ)
 stats_lines false w = []
 stats_lines true w = (stats_text w.made w.kept w.late ++ 10 ∷ []) ∷ []
 
+-- a line of the play: what its command writes, and then the line
+abbrev pub line_deeds : Tables → List (List ℕ) → Line → List Deed
+line_deeds t names line = reply_deeds t names line.reply ++ Put (line_text t names line) ∷ []
+
 abbrev pub is_large : List (List ℕ) → Bool
 is_large lines = nat_lt max_text (length (text_of lines))
 
-abbrev pub done : Played → List (List ℕ) → Out
-done p lines = record {
+abbrev pub done : Played → List Deed → Out
+done p deeds = record {
   status = status.Done;
-  lines = lines;
-  files = [];
+  deeds = deeds;
   last = graph_now p.state;
   revisions = revisions p.state.editor;
   asks = answers_in p.lines;
 }
 
--- all lines, where they aren't too large together
-abbrev pub fitting : List (List ℕ) → Result (List (List ℕ)) Halt
-fitting lines = cond (is_large lines) (Err (halt.TooLarge limit.Text)) (Ok lines)
+-- what is printed with these lines, where they aren't too large together
+abbrev pub unless_large : {X : Type 0} → List (List ℕ) → X → Result X Halt
+unless_large lines x = cond (is_large lines) (Err (halt.TooLarge limit.Text)) (Ok x)
 
-abbrev pub out_of_fitting : Played → Result (List (List ℕ)) Halt → Out
-out_of_fitting p (Ok lines) = done p lines
+abbrev pub fitting : List Deed → Result (List Deed) Halt
+fitting deeds = unless_large (lines_in deeds) deeds
+
+abbrev pub out_of_fitting : Played → Result (List Deed) Halt → Out
+out_of_fitting p (Ok deeds) = done p deeds
 out_of_fitting p (Err h) = halted h
 
 -- a line for each bad place of the project
@@ -119,11 +147,11 @@ bad_lines bad = map bad_line bad
 
 -- a script that was played. Its lines are printed with the names of the end: a label's name, once given,
 -- never changes, and what is in a graph was named before
-abbrev pub played_lines : Tables → Bool → List BadPlace → Played → Work → List (List ℕ)
-played_lines t stats bad p w = bad_lines bad ++ (map (line_text t p.state.names) p.lines ++ stats_lines stats w)
+abbrev pub played_deeds : Tables → Bool → List BadPlace → Played → Work → List Deed
+played_deeds t stats bad p w = map Put (bad_lines bad) ++ (flat_map (line_deeds t p.state.names) p.lines ++ map Put (stats_lines stats w))
 
 abbrev pub out_of_played : Tables → Bool → List BadPlace → Played → Work → Out
-out_of_played t stats bad p w = out_of_fitting p (fitting (played_lines t stats bad p w))
+out_of_played t stats bad p w = out_of_fitting p (fitting (played_deeds t stats bad p w))
 
 abbrev pub played_from : Tables → Start → Played
 played_from t s = played t s.commands s.begin
@@ -135,12 +163,9 @@ abbrev pub out_of_start : Tables → Bool → Result Start Halt → Out
 out_of_start t stats (Ok s) = out_of_played t stats s.bad (played_from t s) (work_from t s)
 out_of_start t stats (Err h) = halted h
 
--- a file that is formatted: its text, and nothing else is done
-abbrev pub printed_alone : List (List ℕ) → Out
-printed_alone lines = record { status = status.Done; lines = lines; files = []; last = empty; revisions = []; asks = [] }
-
+-- lines alone, and nothing else is done
 abbrev pub out_of_text : Result (List (List ℕ)) Halt → Out
-out_of_text (Ok lines) = printed_alone lines
+out_of_text (Ok lines) = only_lines status.Done lines
 out_of_text (Err h) = halted h
 
 -- a project that is checked: its bad places, and what it has
@@ -151,14 +176,21 @@ abbrev pub checked_lines : Project → List (List ℕ)
 checked_lines p = bad_lines p.bad ++ size_line (graph_now p.begin) (length p.bad) ∷ []
 
 abbrev pub checked : Tables → Tree → Result (List (List ℕ)) Halt
-checked t tree = and_then (loaded t tree) (λ p. fitting (checked_lines p))
+checked t tree = and_then (loaded t tree) (λ p. unless_large (checked_lines p) (checked_lines p))
 
--- a script is played without workers, whatever their number. Nothing is built yet, and no project is made
+-- what a task that plays the project starts with
+abbrev pub start_of_run : Tables → Tree → List ℕ → ℕ → Result Start Halt
+start_of_run t tree script cache = start_of t tree cache (script_of tree script)
+
+abbrev pub start_of_build : Tables → Tree → List ℕ → Result Start Halt
+start_of_build t tree path = start_of t tree build_cache (commands_in (build_script path))
+
+-- a script is played without workers, whatever their number. No project is made yet
 abbrev pub out_of_task : Tables → Tree → Task → Out
-out_of_task t tree (Run script workers cache stats) = out_of_start t stats (start_of t tree cache (script_of tree script))
+out_of_task t tree (Run script workers cache stats) = out_of_start t stats (start_of_run t tree script cache)
 out_of_task t tree (Format path) = out_of_text (formatted_in tree path)
 out_of_task t tree Check = out_of_text (checked t tree)
-out_of_task t tree (Build path workers) = halted halt.NotBuilt
+out_of_task t tree (Build path workers) = out_of_start t false (start_of_build t tree path)
 out_of_task t tree (Gen seed size workers cache) = halted halt.NotBuilt
 
 abbrev pub out_of_words : Tables → Tree → Result Task Usage → Out
@@ -167,7 +199,3 @@ out_of_words t tree (Err e) = usage
 
 abbrev pub out_of : Tables → Tree → List (List ℕ) → Out
 out_of t tree words = out_of_words t tree (task_in words)
-
--- the tree after all files of a run were written, in order
-abbrev pub all_written : List Written → Tree → Tree
-all_written files tree = fold (λ t w. written t w.file.path w.file.bytes) tree files

@@ -1,5 +1,5 @@
 -- The printed texts, beside those of answers.
-use Rattle.std.specs.Prelude.{ℕ, List, [], ◌∷◌, ◌++◌, codes, flat_map}
+use Rattle.std.specs.Prelude.{ℕ, List, [], ◌∷◌, ◌++◌, codes}
 use Rattle.std.specs.Fmt.{decimal}
 use Rattle.dg_base.specs.declared.step.TxCode.{TxCode}
 use Rattle.dg_base.specs.declared.step.TxCode.TheVariants as tx
@@ -119,7 +119,3 @@ max_text = 268435456
 -- a line of the output: the number of the script's line, a colon, a blank and the text
 abbrev pub line_of : ℕ → List ℕ → List ℕ
 line_of number text = decimal number ++ codes ": " ++ text ++ 10 ∷ []
-
--- all lines, one behind the other
-abbrev pub text_of : List (List ℕ) → List ℕ
-text_of lines = flat_map (λ line. line) lines

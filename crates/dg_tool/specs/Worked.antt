@@ -1,8 +1,9 @@
 -- Scripts of which the checker computes what they print.
-use Rattle.std.specs.Prelude.{◌≡◌, ℕ, List, ◌∷◌, [], ◌++◌, codes}
+use Rattle.std.specs.Prelude.{◌≡◌, ℕ, List, ◌∷◌, [], ◌++◌, codes, map}
 use Rattle.dg_files.specs.Tree.{Tree}
 use Rattle.dg_kinds_coll.specs.Defold.{defold_tables}
 use Rattle.dg_tool.specs.declared.status.Status.TheVariants as status
+use Rattle.dg_deeds.specs.declared.deed.Deed.TheVariants.{Put}
 use Rattle.dg_tool.specs.Out.{Out, out_of}
 
 -- a script at /e.txt, and the words that play it
@@ -15,9 +16,9 @@ run_words = codes "run" ∷ codes "/e.txt" ∷ codes "--workers" ∷ codes "0" �
 abbrev pub out_of_bytes : List ℕ → Out
 out_of_bytes script = out_of defold_tables (tree_with script) run_words
 
--- it is played to its end and prints these lines
+-- it is played to its end and does nothing but print these lines
 abbrev pub prints : List ℕ → List (List ℕ) → Type 0
-prints script lines = ((out_of_bytes script).status ≡ status.Done) × ((out_of_bytes script).lines ≡ lines)
+prints script lines = ((out_of_bytes script).status ≡ status.Done) × ((out_of_bytes script).deeds ≡ map Put lines)
 
 abbrev pub line : List ℕ → List ℕ
 line text = text ++ 10 ∷ []
@@ -60,9 +61,12 @@ deleted_lines =
     line (codes "1: ok") ∷ line (codes "2: ok") ∷ line (codes "3: ok") ∷ line (codes "4: ok") ∷ line (codes "5: ok")
     ∷ line (codes "6: fault 2.id NoEndpoint") ∷ []
 
--- a command that isn't played yet
-abbrev pub unplayed : List ℕ
-unplayed = line (codes "ask now a.value") ++ codes "build a"
+-- what is no collection and no game object is built as nothing
+abbrev pub building : List ℕ
+building = line (codes "make Num a") ++ line (codes "build b") ++ codes "build a"
+
+abbrev pub building_lines : List (List ℕ)
+building_lines = line (codes "1: ok") ∷ line (codes "2: NoName") ∷ line (codes "3: fault 1.build NoEndpoint") ∷ []
 
 -- a block that isn't closed
 abbrev pub unclosed : List ℕ

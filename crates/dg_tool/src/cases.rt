@@ -160,16 +160,12 @@ pub(crate) static EDITED: [(&str, &str); 6] = [
     ),
 ];
 
-const NOT_BUILT: &str = "error: not built\n";
-
-pub(crate) static REFUSED: [(&str, &str); 7] = [
+pub(crate) static REFUSED: [(&str, &str); 5] = [
     ("begin\nmake Num a\n", "error: script line 1 OpenBlock\n"),
     ("frob\n", "error: script line 1 Word\n"),
     ("begin\nundo\nend\n", "error: script line 2 InBlock\n"),
     ("make Num 1a\n", "error: script line 1 Value\n"),
     ("undo\n\nmake Num\n", "error: script line 3 Arity\n"),
-    ("build a\n", NOT_BUILT),
-    ("make Collection c\nbuild c\n", NOT_BUILT),
 ];
 
 /// Files, and what their formatting prints and ends with. The first four are those of the examples.
@@ -425,7 +421,7 @@ pub(crate) static WORDS_ENDED: [(&str, u8, &str); 17] = [
         "error: script line 1 Arity\n",
     ),
     ("check", 0, "nodes 0 arcs 0 bad 0\n"),
-    ("build /e.txt", 3, "error: not built\n"),
+    ("build /e.txt", 0, "1: NoName\n"),
     ("gen 7 1", 3, "error: not built\n"),
     ("gen 7 65", 1, "error: usage\n"),
 ];

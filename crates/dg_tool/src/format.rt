@@ -1,14 +1,15 @@
 //! The canonical text of a game object or a collection.
-ghost use Rattle.std.specs.Prelude.{◌≡◌, ◌≤◌, IfOk, IfSome, IsErrOf};
+ghost use Rattle.std.specs.Prelude.{◌≡◌, ◌≤◌, IfOk, IfSome, IsErrOf, map};
 ghost use Rattle.dg_base.specs.Refusal.{Gives};
 ghost use Rattle.dg_files.specs.Outcome.{Rose, StaysSound};
 ghost use Rattle.dg_tool.specs.Input.{Tells};
+ghost use Rattle.dg_tool.specs.Seen.{ArePlain, all_plain, plain};
 ghost use Rattle.dg_tool.specs.Format.{cut, fitting_text, formatted, formatted_coll, formatted_go, formatted_in};
 
 use crate::halt::{Halt, Limit};
 use crate::input::bytes_of;
+use crate::piece::{Piece, Pieces};
 use crate::size::MAX_TEXT;
-use crate::text::Lines;
 use dg_base::Refusal;
 use dg_desc::{coll_tree, go_tree};
 use dg_files::{Bytes, Files};
@@ -26,8 +27,9 @@ pub(crate) fn formatted_in<F: Files>(
     alloc: Global,
     files: &mut F,
     path: &str,
-) -> Result<Lines, Refusal<Halt>>
-    ensures told { IfSome (F.tree files.old) (λ t. Tells (λ ls. ls) result (formatted_in t path.now)) }
+) -> Result<Pieces, Refusal<Halt>>
+    ensures told { IfSome (F.tree files.old) (λ t. Tells (λ ps. ps.items) result (all_plain (formatted_in t path.now))) }
+    ensures plain { IfOk result (λ ps. ArePlain ps.items) }
     ensures tree { F.tree files.new ≡ F.tree files.old }
     ensures never_falls { F.faults files.old ≤ F.faults files.new }
     ensures cause { IsErrOf result (Refusal.Because Halt.FileFault) → Rose (F.faults files.old) (F.faults files.new) }
@@ -39,8 +41,8 @@ pub(crate) fn formatted_in<F: Files>(
 }
 
 // The lines of a text, where all of it is printed.
-fn fitting_text(alloc: Global, text: &[u8]) -> Result<Lines, Refusal<Halt>>
-    ensures { Gives (λ lines. lines) result (fitting_text text.now) }
+fn fitting_text(alloc: Global, text: &[u8]) -> Result<Pieces, Refusal<Halt>>
+    ensures { Gives (λ ps. ps.items) result (all_plain (fitting_text text.now)) }
 {
     if text.len() > MAX_TEXT {
         Err(Refusal::Because(Halt::TooLarge(Limit::Text)))
@@ -88,19 +90,20 @@ fn bad_file(unread: Unread) -> Refusal<Halt>
 }
 
 // The lines of a text, each with its line feed.
-fn cut(alloc: Global, text: &[u8]) -> Result<Lines, AllocError>
-    ensures { IfOk result (λ lines. lines ≡ cut text.now) }
+fn cut(alloc: Global, text: &[u8]) -> Result<Pieces, AllocError>
+    ensures { IfOk result (λ ps. ps.items ≡ map plain (cut text.now)) }
 {
-    let mut lines = Lines::new(alloc);
+    let mut pieces = Vec::new(alloc);
     let mut line = Vec::new(alloc);
     for byte in text {
         line.push(*byte)?;
         if *byte == b'\n' {
-            lines.push(Bytes::from_vec(mem::replace(&mut line, Vec::new(alloc))))?;
+            let whole = mem::replace(&mut line, Vec::new(alloc));
+            pieces.push(Piece::plain(Bytes::from_vec(whole)))?;
         }
     }
     if !line.is_empty() {
-        lines.push(Bytes::from_vec(line))?;
+        pieces.push(Piece::plain(Bytes::from_vec(line)))?;
     }
-    Ok(lines)
+    Ok(pieces)
 }

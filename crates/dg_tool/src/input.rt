@@ -2,14 +2,14 @@
 ghost use Rattle.std.specs.Prelude.{◌≡◌, ◌≤◌, IfOk, IfSome, IsErrOf};
 ghost use Rattle.dg_base.specs.Refusal.{Gives};
 ghost use Rattle.dg_files.specs.Outcome.{Rose, StaysSound};
-ghost use Rattle.dg_tool.specs.Input.{Tells, built, bytes_of, commands_in, script_of};
+ghost use Rattle.dg_tool.specs.Input.{Tells, build_script, bytes_of, commands_in, script_of};
 
-use crate::built::are_built;
 use crate::halt::{Halt, Limit};
 use crate::size::{MAX_LINES, MAX_SCRIPT, line_count};
 use dg_base::Refusal;
 use dg_files::{Bytes, Files, Got};
 use dg_script::{Script, read_script};
+use dg_text::put_quoted;
 use std::alloc::Global;
 
 /// The bytes of a file, of which there are at most 1 MiB. The files are read and nothing else.
@@ -47,8 +47,7 @@ pub(crate) fn script_of<F: Files>(
     ensures sound { StaysSound F.is_sound F.faults files.old files.new }
 {
     let bytes = bytes_of(alloc, files, path, Limit::Script)?;
-    let commands = commands_in(alloc, bytes.as_slice())?;
-    built(commands)
+    commands_in(alloc, bytes.as_slice())
 }
 
 /// The commands of a script by its bytes, of which there are at most 1 MiB.
@@ -68,13 +67,14 @@ fn commands_in(alloc: Global, bytes: &[u8]) -> Result<Script, Refusal<Halt>>
     }
 }
 
-/// The commands, where all of them are played.
-fn built(commands: Script) -> Result<Script, Refusal<Halt>>
-    ensures { Gives (λ commands. commands) result (built commands) }
+/// For how many entries the cache of a build has room.
+pub(crate) const BUILD_CACHE: u32 = 4096;
+
+/// The commands of a build: those of a script of one line.
+pub(crate) fn build_commands(alloc: Global, path: &str) -> Result<Script, Refusal<Halt>>
+    ensures { Gives (λ commands. commands) result (commands_in (build_script path.now)) }
 {
-    if are_built(commands.as_slice()) {
-        Ok(commands)
-    } else {
-        Err(Refusal::Because(Halt::NotBuilt))
-    }
+    let mut script = Vec::from_slice(alloc, b"build ")?;
+    put_quoted(&mut script, path)?;
+    commands_in(alloc, script.as_slice())
 }

@@ -12,16 +12,16 @@
 //! [`worked`] states cases that the checker computes.
 #![tactic(auto)]
 
-mod built;
 #[cfg(test)]
 mod cases;
+mod doing;
 mod format;
 mod halt;
 mod input;
 mod lines;
 mod output;
 mod page;
-mod printing;
+mod piece;
 mod project;
 #[cfg(test)]
 mod projects;

@@ -1,20 +1,23 @@
 //! The last pass: the lines that are printed.
-ghost use Rattle.std.specs.Prelude.{◌≡◌, ◌++◌, map, IfOk, OnOk};
-ghost use Rattle.std.specs.Option.{option_to_list};
+ghost use Rattle.std.specs.Prelude.{◌≡◌, ◌++◌, map, flat_map, length, IfOk, OnOk};
+ghost use Rattle.std.specs.Option.{option_map, option_to_list};
 ghost use Rattle.dg_kinds_coll.specs.Defold.{defold_tables};
 ghost use Rattle.dg_base.specs.Refusal.{Gives};
-ghost use Rattle.dg_play.specs.Seen.{line_of, reply_of};
-ghost use Rattle.dg_tool.specs.Out.{bad_lines, built_text, checked_lines, fitting, line_text, reply_text};
-ghost use Rattle.dg_tool.specs.Seen.{seen_project};
+ghost use Rattle.dg_play.specs.Play.{graph_now};
+ghost use Rattle.dg_play.specs.Seen.{line_of, reply_of, state_of};
+ghost use Rattle.dg_deeds.specs.declared.deed.Deed.TheVariants.{Put};
+ghost use Rattle.dg_tool.specs.Out.{bad_lines, built_text, checked_lines, fitting, line_deeds, line_text, reply_text, size_line, unless_large};
+ghost use Rattle.dg_tool.specs.Seen.{all_plain, built_by, deeds_in, fitting_pieces, line_piece, plain, seen_project};
 
 use crate::halt::Halt;
 use crate::page::Page;
+use crate::piece::{Piece, Pieces};
 use crate::project::Project;
-use crate::text::{self, Lines};
+use crate::text;
 use dg_base::{Answer, Names, Refusal};
 use dg_build::targets;
 use dg_files::Bytes;
-use dg_play::{Line, Reply};
+use dg_play::{Answered, Line, Reply};
 use dg_report::put_answer;
 use dg_sources::BadPlace;
 use itoa::Buffer;
@@ -25,38 +28,66 @@ use std::alloc::{AllocError, Global};
 pub(crate) fn printed(
     alloc: Global,
     bad: &[BadPlace],
-    lines: &[Line],
+    lines: Vec<Line>,
     names: &Names,
     last: Option<Bytes>,
-) -> Result<Lines, Refusal<Halt>>
-    ensures { Gives (λ ls. ls) result
-        (fitting (bad_lines bad.now ++ (map (λ l. line_text defold_tables names.now (line_of l)) lines.now ++ option_to_list last))) }
+) -> Result<Pieces, Refusal<Halt>>
+    ensures { Gives (λ ps. deeds_in defold_tables names.now ps.items) result
+        (fitting (map Put (bad_lines bad.now) ++ (flat_map (λ l. line_deeds defold_tables names.now (line_of l)) lines.items ++ map Put (option_to_list last)))) }
+{
+    pieces_of(alloc, bad, lines, names, last)
+}
+
+fn pieces_of(
+    alloc: Global,
+    bad: &[BadPlace],
+    lines: Vec<Line>,
+    names: &Names,
+    last: Option<Bytes>,
+) -> Result<Pieces, Refusal<Halt>>
+    ensures { Gives (λ ps. ps.items) result
+        (fitting_pieces ((map plain (bad_lines bad.now) ++ map (line_piece defold_tables names.now) lines.items) ++ option_to_list (option_map plain last))) }
 {
     let mut page = Page::new(alloc);
     put_bad(alloc, &mut page, bad)?;
     put_played(alloc, &mut page, lines, names)?;
     page.put_some(last)?;
-    Ok(page.into_lines())
+    Ok(page.into_pieces())
 }
 
 /// The lines of a project that is checked: those of its bad places, and one on what it has.
-pub(crate) fn checked(alloc: Global, project: &Project) -> Result<Lines, Refusal<Halt>>
-    ensures { Gives (λ ls. ls) result (fitting (checked_lines (seen_project project.now))) }
+pub(crate) fn checked(alloc: Global, project: &Project) -> Result<Pieces, Refusal<Halt>>
+    ensures { Gives (λ ps. ps.items) result (all_plain (unless_large (checked_lines (seen_project project.now)) (checked_lines (seen_project project.now)))) }
 {
-    let bad = project.bad.as_slice();
+    let size = size_line(alloc, project)?;
+    let none = Vec::new(alloc);
+    pieces_of(
+        alloc,
+        project.bad.as_slice(),
+        none,
+        &project.begin.names,
+        Some(size),
+    )
+}
+
+// The line on what a project has.
+fn size_line(alloc: Global, project: &Project) -> Result<Bytes, AllocError>
+    ensures { IfOk result (λ l. l ≡ size_line (graph_now (state_of project.now.begin)) (length project.now.bad)) }
+{
     let graph = project.begin.world.now().revision().graph();
-    let size = text::size_line(alloc, graph.node_count(), graph.arc_count(), bad.len())?;
-    let mut page = Page::new(alloc);
-    put_bad(alloc, &mut page, bad)?;
-    page.put(size)?;
-    Ok(page.into_lines())
+    text::size_line(
+        alloc,
+        graph.node_count(),
+        graph.arc_count(),
+        project.bad.as_slice().len(),
+    )
 }
 
 fn put_bad(alloc: Global, page: &mut Page, bad: &[BadPlace]) -> Result<(), Refusal<Halt>>
-    ensures { Gives (λ _. page.new) result (fitting (page.old ++ bad_lines bad.now)) }
+    ensures { Gives (λ _. page.new) result (fitting_pieces (page.old ++ map plain (bad_lines bad.now))) }
 {
     for place in bad {
-        page.put(text::bad_place(alloc, place)?)?;
+        page.put(Piece::plain(text::bad_place(alloc, place)?))?;
     }
     page.is_fitting();
     Ok(())
@@ -65,16 +96,37 @@ fn put_bad(alloc: Global, page: &mut Page, bad: &[BadPlace]) -> Result<(), Refus
 fn put_played(
     alloc: Global,
     page: &mut Page,
-    lines: &[Line],
+    lines: Vec<Line>,
     names: &Names,
 ) -> Result<(), Refusal<Halt>>
-    ensures { Gives (λ _. page.new) result (fitting (page.old ++ map (λ l. line_text defold_tables names.now (line_of l)) lines.now)) }
+    ensures { Gives (λ _. page.new) result (fitting_pieces (page.old ++ map (line_piece defold_tables names.now) lines.items)) }
 {
     for line in lines {
-        page.put(line_text(alloc, line, names)?)?;
+        page.put(piece_of(alloc, line, names)?)?;
     }
     page.is_fitting();
     Ok(())
+}
+
+// A line, with the answer that its command builds.
+fn piece_of(alloc: Global, line: Line, names: &Names) -> Result<Piece, AllocError>
+    ensures { IfOk result (λ p. p ≡ line_piece defold_tables names.now line) }
+{
+    let text = line_text(alloc, &line, names)?;
+    let Line { reply, .. } = line;
+    Ok(Piece {
+        built: built_by(reply),
+        line: text,
+    })
+}
+
+fn built_by(reply: Reply) -> Option<Answered>
+    ensures { result ≡ built_by (reply_of reply) }
+{
+    match reply {
+        Reply::Builds(answered) => Some(answered),
+        _ => None,
+    }
 }
 
 /// A line: the number of the script's line, a colon, a blank, the text of its reply and a line feed.

@@ -1,23 +1,25 @@
 //! What a run has to print, before any of it is put, and what it leaves.
-ghost use Rattle.std.specs.Prelude.{◌≡◌, ◌≤◌, ◌+◌, ◌++◌, map, Some, Ok, IfOk, IfSome, IsErrOf};
+ghost use Rattle.std.specs.Prelude.{◌≡◌, ◌≤◌, ◌+◌, ◌++◌, map, flat_map, Some, Ok, IfOk, IfSome, IsErrOf};
 ghost use Rattle.std.specs.Option.{option_to_list};
 ghost use Rattle.dg_files.specs.Outcome.{Rose, StaysSound};
 ghost use Rattle.dg_kinds_coll.specs.Defold.{defold_tables};
+ghost use Rattle.dg_deeds.specs.declared.deed.Deed.TheVariants.{Put};
 ghost use Rattle.dg_play.specs.Desk.{work_in};
 ghost use Rattle.dg_play.specs.Seen.{line_of, state_of};
 ghost use Rattle.dg_tool.specs.Input.{Tells, start_of, start_with};
-ghost use Rattle.dg_tool.specs.Out.{bad_lines, checked, fitting, line_text, out_of_fitting, out_of_start, out_of_task, stats_lines};
-ghost use Rattle.dg_tool.specs.Seen.{IsOpened, seen_project};
-ghost use Rattle.dg_tool.specs.Statement.{IsDeskOfStart, IsDeskOfTask, IsOutput, alone, made_by_start, made_by_task};
+ghost use Rattle.dg_tool.specs.Out.{bad_lines, checked, fitting, line_deeds, out_of_fitting, out_of_start, out_of_task, stats_lines};
+ghost use Rattle.dg_tool.specs.Seen.{ArePlain, IsOpened, all_plain, seen_project};
+ghost use Rattle.dg_tool.specs.Statement.{IsDeskOfStart, IsDeskOfTask, IsOutput, WritesNothing, alone, made_by_start, made_by_task};
 ghost use Rattle.dg_words.specs.Ranges.{IsInRange};
 
 use crate::format::formatted_in;
 use crate::halt::Halt;
-use crate::input::script_of;
+use crate::input::{BUILD_CACHE, build_commands, script_of};
 use crate::lines::{checked, printed};
+use crate::piece::Pieces;
 use crate::project::{Project, loaded};
-use crate::text::{Lines, stats_line};
-use dg_base::{Refusal, Steps};
+use crate::text::stats_line;
+use dg_base::{Names, Refusal, Steps};
 use dg_files::{Bytes, Files};
 use dg_play::{Played, ScriptDesk, State, play_commands};
 use dg_script::Script;
@@ -26,10 +28,12 @@ use dg_words::Task;
 use std::alloc::{AllocError, Global};
 use std::sync::ledger::Ledger;
 
-/// The lines of a run that is done, and the desk of one that played a script.
+/// All that a run does that is done: its lines, each with what is written before it, and the names that the files go by; and
+/// the desk of one that played a script.
 #[derive(Drop)]
 pub struct Output {
-    pub lines: Lines,
+    pub pieces: Pieces,
+    pub names: Names,
     pub desk: Option<ScriptDesk>,
 }
 
@@ -41,9 +45,10 @@ pub(crate) fn output_of<F: Files, L: Ledger>(
     steps: &mut Steps<L>,
 ) -> Result<Output, Refusal<Halt>>
     requires { IsInRange task }
-    ensures told { IfSome (F.tree files.old) (λ t. IsOutput result (out_of_task defold_tables t task)) }
+    ensures told { IfSome (F.tree files.old) (λ t. IsOutput defold_tables result (out_of_task defold_tables t task)) }
     ensures desk { IfOk result (λ o. IfSome (F.tree files.old) (λ t. IsDeskOfTask defold_tables t task o.desk)) }
     ensures work { IfOk result (λ o. IfSome (F.tree files.old) (λ t. steps.new ≡ steps.old + made_by_task defold_tables t task)) }
+    ensures plain { IfOk result (λ o. WritesNothing (Ok task) → ArePlain o.pieces.items) }
     ensures tree { F.tree files.new ≡ F.tree files.old }
     ensures never_falls { F.faults files.old ≤ F.faults files.new }
     ensures cause { IsErrOf result (Refusal.Because Halt.FileFault) → Rose (F.faults files.old) (F.faults files.new) }
@@ -59,25 +64,34 @@ pub(crate) fn output_of<F: Files, L: Ledger>(
             Ok(commands) => run_output(alloc, commands, cache, stats, files, steps),
             Err(refusal) => Err(refusal),
         },
-        Task::Check => alone(checked_in(alloc, files)),
-        Task::Format { path } => alone(formatted_in(alloc, files, path.as_str())),
-        Task::Build { .. } | Task::Gen { .. } => Err(Refusal::Because(Halt::NotBuilt)),
+        Task::Build { path, workers: _ } => match build_commands(alloc, path.as_str()) {
+            Ok(commands) => run_output(alloc, commands, BUILD_CACHE, false, files, steps),
+            Err(refusal) => Err(refusal),
+        },
+        Task::Check => alone(alloc, checked_in(alloc, files)),
+        Task::Format { path } => alone(alloc, formatted_in(alloc, files, path.as_str())),
+        Task::Gen { .. } => Err(Refusal::Because(Halt::NotBuilt)),
     }
 }
 
 // Lines that are printed of a task that plays nothing.
-fn alone(lines: Result<Lines, Refusal<Halt>>) -> Result<Output, Refusal<Halt>>
+fn alone(alloc: Global, lines: Result<Pieces, Refusal<Halt>>) -> Result<Output, Refusal<Halt>>
     ensures { result ≡ alone lines }
 {
     match lines {
-        Ok(lines) => Ok(Output { lines, desk: None }),
+        Ok(pieces) => Ok(Output {
+            pieces,
+            names: Names::new(alloc),
+            desk: None,
+        }),
         Err(refusal) => Err(refusal),
     }
 }
 
 // The lines of the project that is checked.
-fn checked_in<F: Files>(alloc: Global, files: &mut F) -> Result<Lines, Refusal<Halt>>
-    ensures told { IfSome (F.tree files.old) (λ t. Tells (λ ls. ls) result (checked defold_tables t)) }
+fn checked_in<F: Files>(alloc: Global, files: &mut F) -> Result<Pieces, Refusal<Halt>>
+    ensures told { IfSome (F.tree files.old) (λ t. Tells (λ ps. ps.items) result (all_plain (checked defold_tables t))) }
+    ensures plain { IfOk result (λ ps. ArePlain ps.items) }
     ensures tree { F.tree files.new ≡ F.tree files.old }
     ensures never_falls { F.faults files.old ≤ F.faults files.new }
     ensures cause { IsErrOf result (Refusal.Because Halt.FileFault) → Rose (F.faults files.old) (F.faults files.new) }
@@ -99,7 +113,7 @@ fn run_output<F: Files, L: Ledger>(
     steps: &mut Steps<L>,
 ) -> Result<Output, Refusal<Halt>>
     requires { 1 ≤ capacity }
-    ensures told { IfSome (F.tree files.old) (λ t. IsOutput result (out_of_start defold_tables stats (start_of defold_tables t capacity (Ok commands)))) }
+    ensures told { IfSome (F.tree files.old) (λ t. IsOutput defold_tables result (out_of_start defold_tables stats (start_of defold_tables t capacity (Ok commands)))) }
     ensures desk { IfOk result (λ o. IfSome (F.tree files.old) (λ t. IsDeskOfStart defold_tables (start_of defold_tables t capacity (Ok commands)) o.desk)) }
     ensures work { IfOk result (λ o. IfSome (F.tree files.old) (λ t.
         steps.new ≡ steps.old + made_by_start defold_tables (start_of defold_tables t capacity (Ok commands)))) }
@@ -123,7 +137,7 @@ fn play_output<L: Ledger>(
     steps: &mut Steps<L>,
 ) -> Result<Output, Refusal<Halt>>
     requires { IsOpened project.begin }
-    ensures told { IsOutput result (out_of_start defold_tables stats (Ok (start_with commands project.begin.world.desk.capacity (seen_project project)))) }
+    ensures told { IsOutput defold_tables result (out_of_start defold_tables stats (Ok (start_with commands project.begin.world.desk.capacity (seen_project project)))) }
     ensures desk { IfOk result (λ o. IsDeskOfStart defold_tables (Ok (start_with commands project.begin.world.desk.capacity (seen_project project))) o.desk) }
     ensures work { IfOk result (λ o.
         steps.new ≡ steps.old + made_by_start defold_tables (Ok (start_with commands project.begin.world.desk.capacity (seen_project project)))) }
@@ -140,16 +154,17 @@ fn finished(
     stats: bool,
     done: Played,
 ) -> Result<Output, Refusal<Halt>>
-    ensures told { IsOutput result (out_of_fitting (record { lines = map line_of done.lines.items; state = state_of done.state })
-        (fitting (bad_lines bad.now ++ (map (λ l. line_text defold_tables done.state.names (line_of l)) done.lines.items ++ stats_lines stats (work_in done.state.world))))) }
+    ensures told { IsOutput defold_tables result (out_of_fitting (record { lines = map line_of done.lines.items; state = state_of done.state })
+        (fitting (map Put (bad_lines bad.now) ++ (flat_map (λ l. line_deeds defold_tables done.state.names (line_of l)) done.lines.items ++ map Put (stats_lines stats (work_in done.state.world)))))) }
     ensures desk { IfOk result (λ o. o.desk ≡ Some done.state.world.desk) }
     ensures no_fault { ¬ IsErrOf result (Refusal.Because Halt.FileFault) }
 {
     let last = last_line(alloc, stats, &done.state)?;
-    let lines = printed(alloc, bad, done.lines.as_slice(), &done.state.names, last)?;
-    let (desk, _) = done.state.into_parts();
+    let pieces = printed(alloc, bad, done.lines, &done.state.names, last)?;
+    let (desk, names) = done.state.into_parts();
     Ok(Output {
-        lines,
+        pieces,
+        names,
         desk: Some(desk),
     })
 }

@@ -149,3 +149,192 @@ pub(crate) static PROJECTS: [Case<'static>; 9] = [
         text: "bad /r.collection 2 Recursive\n",
     },
 ];
+
+/// A build by the project's files, the words of a run, the numbers of the call of the files and of the put that fail (0 for
+/// none), how many bytes a put takes, its status, what it prints, and what it leaves in build files (nothing for one that
+/// isn't there).
+pub(crate) struct Build<'a> {
+    pub(crate) files: &'a [(&'a str, &'a [u8])],
+    pub(crate) words: &'a str,
+    pub(crate) failing_call: u64,
+    pub(crate) failing_put: u64,
+    pub(crate) most: usize,
+    pub(crate) status: u8,
+    pub(crate) text: &'a str,
+    pub(crate) built: &'a [(&'a str, &'a str)],
+}
+
+const EMBEDDED: &[(&str, &[u8])] = &[(
+    "/main/main.collection",
+    b"name: \"main\"
+scale_along_z: 0
+embedded_instances {
+  id: \"go\"
+  data: \"embedded_components {\\n\"
+  \"  id: \\\"sprite\\\"\\n\"
+  \"  type: \\\"sprite\\\"\\n\"
+  \"  data: \\\"default_animation: \\\\\\\"idle\\\\\\\"\\\\n\"
+  \"\\\"\\n\"
+  \"}\\n\"
+  \"\"
+  position {
+    x: 10.5
+  }
+  rotation {
+    z: 0.70710677
+    w: 0.70710677
+  }
+}
+",
+)];
+
+const COMPONENT: (&str, &str) = (
+    "/build/default/main/main_component_0.spritec",
+    "default_animation: \"idle\"\n",
+);
+
+const OBJECT: (&str, &str) = (
+    "/build/default/main/main_object_0.goc",
+    "object\ncomponent \"sprite\" \"/main/main_component_0.spritec\" 0 0 0 0 0 0 1\n",
+);
+
+const COLLECTION: (&str, &str) = (
+    "/build/default/main/main.collectionc",
+    "collection \"main\" 0\nobject \"/go\" \"/main/main_object_0.goc\" 10.5 0 0 0 0 0.70710677 0.70710677 1 1 1\n",
+);
+
+const REBUILT: &[(&str, &[u8])] = &[
+    ("/p.script", b"go.property(\"speed\", 100)\n"),
+    (
+        "/p.go",
+        b"components { id: \"p\" component: \"/p.script\" properties { id: \"speed\" value: \"250\" type: PROPERTY_TYPE_NUMBER } }",
+    ),
+    (
+        "/m.collection",
+        b"name: \"m\" instances { id: \"x\" prototype: \"/p.go\" component_properties { id: \"p\" properties { id: \"speed\" value: \"300\" type: PROPERTY_TYPE_NUMBER } } }",
+    ),
+    ("/build/default/p.goc", b"of yesterday"),
+    ("/build/default/q.goc", b"of another"),
+    (
+        "/e.txt",
+        b"build /m.collection\nset \"/p.go#p:speed\" number \"7\"\nbuild /p.go\nbuild /p.script\nbuild x\nmake GameObject g\nbuild g\n",
+    ),
+];
+
+const OF_M: (&str, &str) = (
+    "/build/default/m_object_0.goc",
+    "object\ncomponent \"p\" \"/p.scriptc\" 0 0 0 0 0 0 1\nproperty \"speed\" number \"300\"\n",
+);
+
+const WHOLE_M: (&str, &str) = (
+    "/build/default/m.collectionc",
+    "collection \"m\" 0\nobject \"/x\" \"/m_object_0.goc\" 0 0 0 0 0 0 1 1 1 1\n",
+);
+
+const WHOLE_P: (&str, &str) = (
+    "/build/default/p.goc",
+    "object\ncomponent \"p\" \"/p.scriptc\" 0 0 0 0 0 0 1\nproperty \"speed\" number \"7\"\n",
+);
+
+const REBUILT_TEXT: &str = "1: built 2
+2: ok
+3: built 1
+4: fault 1.build NoEndpoint
+5: NoName
+6: ok
+7: fault 8.build BadName
+";
+
+pub(crate) static BUILDS: [Build<'static>; 8] = [
+    Build {
+        files: EMBEDDED,
+        words: "build /main/main.collection --workers 0",
+        failing_call: 0,
+        failing_put: 0,
+        most: 4096,
+        status: 0,
+        text: "1: built 3\n",
+        built: &[COMPONENT, OBJECT, COLLECTION],
+    },
+    // After the list and the read of the collection the third call writes the component, the fourth the object.
+    Build {
+        files: EMBEDDED,
+        words: "build main/main.collection",
+        failing_call: 4,
+        failing_put: 0,
+        most: 4096,
+        status: 4,
+        text: "",
+        built: &[
+            COMPONENT,
+            ("/build/default/main/main_object_0.goc", ""),
+            ("/build/default/main/main.collectionc", ""),
+        ],
+    },
+    Build {
+        files: EMBEDDED,
+        words: "build main/main.collection",
+        failing_call: 0,
+        failing_put: 3,
+        most: 1,
+        status: 5,
+        text: "1:",
+        built: &[COMPONENT, OBJECT, COLLECTION],
+    },
+    Build {
+        files: REBUILT,
+        words: "run /e.txt",
+        failing_call: 0,
+        failing_put: 0,
+        most: 1,
+        status: 0,
+        text: REBUILT_TEXT,
+        built: &[
+            OF_M,
+            WHOLE_M,
+            WHOLE_P,
+            ("/build/default/q.goc", "of another"),
+        ],
+    },
+    // The fifth call behind the script's read and the list is the first write, the seventh the third one.
+    Build {
+        files: REBUILT,
+        words: "run /e.txt",
+        failing_call: 8,
+        failing_put: 0,
+        most: 4096,
+        status: 4,
+        text: "1: built 2\n2: ok\n",
+        built: &[OF_M, WHOLE_M, ("/build/default/p.goc", "of yesterday")],
+    },
+    Build {
+        files: REBUILT,
+        words: "build m.collection --workers 0",
+        failing_call: 0,
+        failing_put: 0,
+        most: 4096,
+        status: 0,
+        text: "1: built 2\n",
+        built: &[OF_M, WHOLE_M, ("/build/default/p.goc", "of yesterday")],
+    },
+    Build {
+        files: REBUILT,
+        words: "build none.collection",
+        failing_call: 0,
+        failing_put: 0,
+        most: 4096,
+        status: 0,
+        text: "1: NoName\n",
+        built: &[("/build/default/m_object_0.goc", "")],
+    },
+    Build {
+        files: &[("/r.collection", RECURSIVE)],
+        words: "build /r.collection --workers 0",
+        failing_call: 0,
+        failing_put: 0,
+        most: 4096,
+        status: 0,
+        text: "bad /r.collection 2 Recursive\n1: fault 2.instance Defective\n",
+        built: &[("/build/default/r.collectionc", "")],
+    },
+];

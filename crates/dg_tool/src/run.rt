@@ -1,20 +1,22 @@
 //! The top call.
-ghost use Rattle.std.specs.Prelude.{◌≡◌, ◌≤◌, ◌⊎◌, ◌+◌, map, string_bytes, IfOk, IfSome, None};
+ghost use Rattle.std.specs.Prelude.{◌≡◌, ◌≤◌, ◌⊎◌, ◌+◌, map, string_bytes, IfOk, IfSome, None, Ok};
 ghost use Rattle.dg_files.specs.Outcome.{Rose, StaysSound};
 ghost use Rattle.dg_kinds_coll.specs.Defold.{defold_tables};
 ghost use Rattle.dg_tool.specs.Halts.{status_of, halt_lines};
-ghost use Rattle.dg_tool.specs.Out.{out_of, out_of_task, usage};
-ghost use Rattle.dg_tool.specs.Statement.{EndsAs, HasCauses, IsComplete, IsDeskOfTask, IsDeskOfWords, IsPut, made_by_task, made_by_words};
+ghost use Rattle.dg_tool.specs.Out.{out_of, out_of_task, usage, usage_lines};
+ghost use Rattle.dg_tool.specs.Seen.{deeds_of};
+ghost use Rattle.dg_tool.specs.Statement.{AreDone, EndsAs, HasCauses, IsComplete, IsDeskOfTask, IsDeskOfWords, IsPut, WritesNothing, made_by_task, made_by_words};
 ghost use Rattle.dg_words.specs.Paths.{usage as no_task};
 ghost use Rattle.dg_words.specs.Ranges.{IsInRange};
 ghost use Rattle.dg_words.specs.Tasks.{task_in};
 
+use crate::doing::do_pieces;
 use crate::halt::Halt;
 use crate::output::{Output, output_of};
-use crate::printing::put_lines;
 use crate::status::Status;
 use crate::text::{self, Lines};
 use dg_base::{Refusal, Steps};
+use dg_deeds::put_lines;
 use dg_files::{Files, Sink};
 use dg_play::ScriptDesk;
 use dg_words::laws::numbers_are_in_range;
@@ -64,13 +66,14 @@ pub fn run_alone<F: Files, S: Sink, L: Ledger>(
     ensures no_desk { ¬ (result.status ≡ Status.Done) → result.desk ≡ None }
 
     // Over any files, also those that tell nothing: the words alone decide on the status of usage, before
-    // a file is read, and where a call of the files failed nothing was printed. What never fails goes on so.
+    // a file is read. A task that writes nothing leaves the tree, and where a call of the files failed it has printed
+    // nothing. What never fails goes on so.
     ensures usage { task_in (map string_bytes words.now) ≡ no_task →
         EndsAs usage result.status (F.tree files.old) (F.tree files.new) (S.bytes out.old) (S.bytes out.new) }
     ensures usage_alone { result.status ≡ Status.Usage → task_in (map string_bytes words.now) ≡ no_task }
     ensures untouched { task_in (map string_bytes words.now) ≡ no_task → files.new ≡ files.old }
-    ensures tree { F.tree files.new ≡ F.tree files.old }
-    ensures files_failed { result.status ≡ Status.FileFault → S.bytes out.new ≡ S.bytes out.old }
+    ensures tree { WritesNothing (task_in (map string_bytes words.now)) → F.tree files.new ≡ F.tree files.old }
+    ensures files_failed { WritesNothing (task_in (map string_bytes words.now)) → result.status ≡ Status.FileFault → S.bytes out.new ≡ S.bytes out.old }
     ensures files_sound { StaysSound F.is_sound F.faults files.old files.new }
     ensures out_sound { StaysSound S.is_sound S.faults out.old out.new }
 {
@@ -106,13 +109,13 @@ fn run_task<F: Files, S: Sink, L: Ledger>(
     ensures work { result.status ≡ Status.Done → IfSome (F.tree files.old) (λ t. steps.new ≡ steps.old + made_by_task defold_tables t task) }
     ensures no_desk { ¬ (result.status ≡ Status.Done) → result.desk ≡ None }
     ensures not_usage { ¬ (result.status ≡ Status.Usage) }
-    ensures tree { F.tree files.new ≡ F.tree files.old }
-    ensures files_failed { result.status ≡ Status.FileFault → S.bytes out.new ≡ S.bytes out.old }
+    ensures tree { WritesNothing (Ok task) → F.tree files.new ≡ F.tree files.old }
+    ensures files_failed { WritesNothing (Ok task) → result.status ≡ Status.FileFault → S.bytes out.new ≡ S.bytes out.old }
     ensures files_sound { StaysSound F.is_sound F.faults files.old files.new }
     ensures out_sound { StaysSound S.is_sound S.faults out.old out.new }
 {
     match output_of(alloc, task, files, steps) {
-        Ok(output) => put_output(out, output),
+        Ok(output) => do_output(alloc, files, out, output),
         Err(Refusal::Because(halt)) => Ended {
             status: put_halt(alloc, out, halt),
             desk: None,
@@ -124,40 +127,41 @@ fn run_task<F: Files, S: Sink, L: Ledger>(
     }
 }
 
-// Puts all lines of a run that is done. Its desk is kept where all of them were put.
-fn put_output<S: Sink>(out: &mut S, output: Output) -> Ended
-    ensures put { IsPut Status.Done output.lines result.status (S.bytes out.old) (S.bytes out.new) }
-    ensures done { result.status ≡ Status.Done → result.desk ≡ output.desk }
-    ensures cut_off { ¬ (result.status ≡ Status.Done) → result.desk ≡ None }
-    ensures cause { result.status ≡ Status.SinkFault → (Status.Done ≡ Status.SinkFault) ⊎ Rose (S.faults out.old) (S.faults out.new) }
-    ensures never_falls { S.faults out.old ≤ S.faults out.new }
-    ensures sound { StaysSound S.is_sound S.faults out.old out.new }
+// Does all that a run does that is done. Its desk is kept where all of it was done.
+fn do_output<F: Files, S: Sink>(alloc: Global, files: &mut F, out: &mut S, output: Output) -> Ended
+    ensures done { AreDone Status.Done (deeds_of defold_tables output) result.status (F.tree files.old) (F.tree files.new) (S.bytes out.old) (S.bytes out.new) }
+    ensures desk { result.status ≡ Status.Done → result.desk ≡ output.desk }
+    ensures no_desk { ¬ (result.status ≡ Status.Done) → result.desk ≡ None }
+    ensures causes { HasCauses result.status (F.faults files.old) (F.faults files.new) (S.faults out.old) (S.faults out.new) }
+    ensures files_sound { StaysSound F.is_sound F.faults files.old files.new }
+    ensures out_sound { StaysSound S.is_sound S.faults out.old out.new }
 {
-    let status = put(out, Status::Done, &output.lines);
-    if status == Status::Done {
-        Ended {
-            status,
+    match do_pieces(alloc, files, out, output.pieces, &output.names) {
+        Ok(()) => Ended {
+            status: Status::Done,
             desk: output.desk,
-        }
-    } else {
-        Ended { status, desk: None }
+        },
+        Err(stop) => Ended {
+            status: Status::cut(stop),
+            desk: None,
+        },
     }
 }
 
 fn put_usage<S: Sink>(alloc: Global, out: &mut S) -> Status
-    ensures put { IsPut Status.Usage usage.lines result (S.bytes out.old) (S.bytes out.new) }
+    ensures put { IsPut Status.Usage usage_lines result (S.bytes out.old) (S.bytes out.new) }
     ensures cause { result ≡ Status.SinkFault → (Status.Usage ≡ Status.SinkFault) ⊎ Rose (S.faults out.old) (S.faults out.new) }
     ensures never_falls { S.faults out.old ≤ S.faults out.new }
     ensures sound { StaysSound S.is_sound S.faults out.old out.new }
 {
-    match usage_lines(alloc) {
+    match lines_of_usage(alloc) {
         Ok(lines) => put(out, Status::Usage, &lines),
         Err(_) => Status::NoMemory,
     }
 }
 
-fn usage_lines(alloc: Global) -> Result<Lines, AllocError>
-    ensures { IfOk result (λ l. l ≡ usage.lines) }
+fn lines_of_usage(alloc: Global) -> Result<Lines, AllocError>
+    ensures { IfOk result (λ l. l ≡ usage_lines) }
 {
     let mut lines = Lines::new(alloc);
     lines.push(text::error(alloc, b"usage")?)?;

@@ -1,6 +1,8 @@
 //! How a run ends.
 ghost use Rattle.std.specs.Prelude.{◌≡◌};
-ghost use Rattle.dg_tool.specs.Halts.{code_of};
+ghost use Rattle.dg_tool.specs.Halts.{code_of, cut_status};
+
+use dg_deeds::Stop;
 
 /// How a run ended.
 #[derive(Clone, Copy, PartialEq, Eq, Debug)]
@@ -24,6 +26,17 @@ pub enum Status {
 }
 
 impl Status {
+    /// That of a run that is cut off.
+    pub(crate) fn cut(stop: Stop) -> Status
+        ensures { result ≡ cut_status stop }
+    {
+        match stop {
+            Stop::FileFault => Status::FileFault,
+            Stop::SinkFault => Status::SinkFault,
+            Stop::NoMemory => Status::NoMemory,
+        }
+    }
+
     /// The number that a program ends with.
     pub fn code(self) -> u8
         ensures { result ≡ code_of self }

@@ -4,7 +4,7 @@ use crate::cases::{
     EDITED, FIRST, FIRST_LINES, FORMATTED, GRAPHS, NAMES, OVERRIDES, REFUSED, SPELLED, TEN,
     WORDS_ENDED, WORKED, Worked,
 };
-use crate::projects::{Case, PROJECTS};
+use crate::projects::{BUILDS, Build, Case, PROJECTS};
 use crate::{Ended, run_alone};
 use dg_base::Steps;
 use dg_files::{MemFiles, MemSink, are_distinct};
@@ -94,7 +94,8 @@ fn ends(
     text: &str,
 ) -> Result<bool, AllocError> {
     let (ended, printed) = run(alloc, words, outside)?;
-    let played = words.starts_with("run") && ended.status.code() == 0;
+    let played = (words.starts_with("run") || words.starts_with("build"))
+        && ended.status.code() == 0;
     Ok(
         ended.status.code() == status
             && printed.as_slice() == text.as_bytes()
@@ -158,6 +159,43 @@ fn project_of(
         return Err(AllocError);
     }
     Ok(MemFiles::new(alloc, tree, vec![in alloc; failing]?))
+}
+
+/// Whether the files at these paths have these bytes, or are absent where there are none.
+fn holds(files: &MemFiles, built: &[(&str, &str)]) -> bool {
+    for (path, text) in built {
+        let as_due = match files.get(path) {
+            Some(found) => found == text.as_bytes(),
+            None => text.is_empty(),
+        };
+        if !as_due {
+            return false;
+        }
+    }
+    true
+}
+
+/// Whether a build ends with the status, having printed and written what is due, where a call of the files (0 for none)
+/// and a put fail.
+fn builds(alloc: Global, case: &Build<'_>) -> Result<bool, AllocError> {
+    let words = words_of(alloc, case.words)?;
+    let mut files = project_of(alloc, case.files, case.failing_call)?;
+    let fail = vec![in alloc; case.failing_put]?;
+    let mut out = MemSink::new(alloc, fail, case.most.max(1));
+    let ended = played(alloc, words.as_slice(), &mut files, &mut out);
+    Ok(
+        ended.status.code() == case.status
+            && out.as_slice() == case.text.as_bytes()
+            && holds(&files, case.built),
+    )
+}
+
+#[test]
+fn builds_are_written_before_their_lines(rt: HostRuntime) -> Result<(), Fail> {
+    for case in BUILDS.iter() {
+        assert!(rt; builds(rt.alloc(), case)?, "{} {}", case.words, case.text);
+    }
+    Ok(())
 }
 
 /// Whether a run over a project ends with the status, having printed just the text.
@@ -406,7 +444,7 @@ fn all_refused(alloc: Global) -> Result<bool, AllocError> {
 }
 
 #[test]
-fn a_script_is_bad_at_a_line_or_not_built(rt: HostRuntime) -> Result<(), Fail> {
+fn a_script_is_bad_at_a_line(rt: HostRuntime) -> Result<(), Fail> {
     assert!(rt; all_refused(rt.alloc())?);
     Ok(())
 }

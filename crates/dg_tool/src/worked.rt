@@ -4,7 +4,7 @@ ghost use Rattle.std.specs.Prelude.{◌≡◌, []};
 ghost use Rattle.dg_script.specs.declared.command.ScriptCode.TheVariants as code;
 ghost use Rattle.dg_tool.specs.declared.halt.Halt.TheVariants as halt;
 ghost use Rattle.dg_tool.specs.Out.{halted};
-ghost use Rattle.dg_tool.specs.Worked.{out_of_bytes, prints, unbound, unbound_lines, making, made_lines, refusing, refused_lines, deleting, deleted_lines, unplayed, unclosed};
+ghost use Rattle.dg_tool.specs.Worked.{out_of_bytes, prints, unbound, unbound_lines, making, made_lines, refusing, refused_lines, deleting, deleted_lines, building, building_lines, unclosed};
 
 /// A name that isn't bound, and a block without steps.
 pub fn misses()
@@ -26,10 +26,13 @@ pub fn deletes()
     ensures { prints deleting deleted_lines }
 {}
 
-/// An empty script prints nothing. A command that isn't played yet isn't built. A block that isn't closed
-/// is bad at its first line.
+/// What isn't bound isn't built, and what has no build output answers with a fault.
+pub fn builds()
+    ensures { prints building building_lines }
+{}
+
+/// An empty script prints nothing. A block that isn't closed is bad at its first line.
 pub fn reads()
     ensures empty { prints [] [] }
-    ensures unplayed { out_of_bytes unplayed ≡ halted halt.NotBuilt }
     ensures unclosed { out_of_bytes unclosed ≡ halted (halt.BadLine 1 code.OpenBlock) }
 {}

@@ -6,7 +6,7 @@ use Rattle.dg_words.specs.declared.task.Usage.{Usage}
 use Rattle.dg_words.specs.Paths.{usage as no_task}
 use Rattle.dg_words.specs.Tasks.{task_in}
 use Rattle.dg_tool.specs.Out.{out_of_words}
-use Rattle.dg_tool.specs.Statement.{EndsAs, IsComplete, IsDeskOfWords, made_by_words}
+use Rattle.dg_tool.specs.Statement.{EndsAs, IsComplete, IsDeskOfWords, WritesNothing, made_by_words}
 use Rattle.dg_tool.proofs.Endings.{isnt_no_task}
 use Rattle.dg_tool.proofs.run.run_alone.Goals as goal
 
@@ -33,8 +33,8 @@ returns-in-Ok g c =
       usage = λ none. absurd (a_task (task_in (map string_bytes c.args.words.now)) is none);
       usage_alone = λ used. absurd (c.run_task.ensures.not_usage used);
       untouched = λ none. absurd (a_task (task_in (map string_bytes c.args.words.now)) is none);
-      tree = c.run_task.ensures.tree;
-      files_failed = c.run_task.ensures.files_failed;
+      tree = λ nothing. c.run_task.ensures.tree (subst WritesNothing (sym is) nothing);
+      files_failed = λ nothing. c.run_task.ensures.files_failed (subst WritesNothing (sym is) nothing);
       files_sound = c.run_task.ensures.files_sound;
       out_sound = c.run_task.ensures.out_sound;
     }

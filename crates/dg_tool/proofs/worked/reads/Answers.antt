@@ -9,10 +9,6 @@ pub returns-clause-empty : goal.returns-clause-empty
 unfolding all_parts chars is_utf8 encode_utf8
 returns-clause-empty c = (refl, refl)
 
-pub returns-clause-unplayed : goal.returns-clause-unplayed
-unfolding all_parts chars is_utf8 encode_utf8
-returns-clause-unplayed c = refl
-
 pub returns-clause-unclosed : goal.returns-clause-unclosed
 unfolding all_parts digits chars is_utf8 encode_utf8
 returns-clause-unclosed c = refl
