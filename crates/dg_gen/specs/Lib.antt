@@ -4,3 +4,4 @@ pub mod Paths
 pub mod Files
 pub mod Script
 pub mod Project
+pub mod Laws
