@@ -4,9 +4,9 @@ use Rattle.dg_cache.specs.declared.cache.Evicted.{Evicted}
 use Rattle.dg_desk.specs.declared.event.Followed.{Followed}
 use Rattle.dg_desk.specs.declared.event.Published.{Published}
 use Rattle.dg_desk.specs.declared.event.PublishEnd.TheVariants as end_of
-use Rattle.dg_desk.specs.Desks.{Desked, IsFollowed, IsPublishEnd, IsEvicted, is_refused}
+use Rattle.dg_desk.specs.Desks.{Desked, IsFollowed, IsPublishEnd, IsEvicted}
 use Rattle.dg_offer.specs.Offers.{Offered}
-use Rattle.dg_room.specs.Made.{Passed, passed, with_follow, with_publication, with_eviction}
+use Rattle.dg_room.specs.Made.{Passed, passed, with_publication, with_eviction}
 
 -- a desk whose next record has this pass
 abbrev pub at_pass : {A B : Type 0} → ℕ → Desked A B → Desked A B

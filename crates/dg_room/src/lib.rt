@@ -18,7 +18,11 @@ mod shares;
 mod locked;
 mod room;
 mod short;
-// Worked cases.
+// Worked cases, tests and callers.
+#[cfg(test)]
+mod tests;
+#[cfg(test)]
+mod uses;
 pub mod worked;
 
 pub use locked::Locked;

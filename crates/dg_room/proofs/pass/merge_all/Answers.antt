@@ -1,4 +1,4 @@
-use Rattle.std.proofs.Common.{◌≡◌, [], ◌∷◌, ap, sym, ◌∙◌, arith, length-append}
+use Rattle.std.proofs.Common.{[], ◌∷◌, ap, sym, ◌∙◌, arith, length-append}
 use Rattle.dg_room.specs.Made.{Made, Passed, Portion, plus, sum_of}
 use Rattle.dg_room.proofs.Making.{sum_of-snoc}
 use Rattle.dg_room.proofs.pass.merge_all.Goals as goal

@@ -1,4 +1,4 @@
-use Rattle.std.proofs.Common.{◌≡◌, ap, sym, ◌∙◌}
+use Rattle.std.proofs.Common.{ap, sym, ◌∙◌}
 use Rattle.dg_desk.specs.Desks.{is_refused}
 use Rattle.dg_room.specs.Made.{Passed, Portion, passed, with_eviction}
 use Rattle.dg_room.proofs.Telling.{tells-dropped}

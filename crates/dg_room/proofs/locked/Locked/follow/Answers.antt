@@ -1,7 +1,6 @@
-use Rattle.std.proofs.Common.{◌≡◌, ◌≤◌, ◌<◌, ap, sym, subst, arith}
+use Rattle.std.proofs.Common.{◌≤◌, ◌<◌, ap, sym, subst, arith}
 use Rattle.dg_base.specs.declared.limits.TheConstants.{REVISIONS}
-use Rattle.dg_desk.specs.Desks.{Desked, spare}
-use Rattle.dg_line.specs.Tickets.{Pin}
+use Rattle.dg_desk.specs.Desks.{spare}
 use Rattle.dg_room.specs.Made.{Passed}
 use Rattle.dg_room.proofs.Making.{has-spare}
 use Rattle.dg_room.proofs.locked.Locked.follow.Goals as goal

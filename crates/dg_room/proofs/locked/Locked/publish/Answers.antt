@@ -1,4 +1,4 @@
-use Rattle.std.proofs.Common.{◌≡◌, ap, sym, ◌∙◌}
+use Rattle.std.proofs.Common.{ap, sym, ◌∙◌}
 use Rattle.dg_room.specs.Made.{Passed, Portion, passed, with_publication}
 use Rattle.dg_room.proofs.Telling.{tells-recorded}
 use Rattle.dg_room.proofs.locked.Locked.publish.Goals as goal
