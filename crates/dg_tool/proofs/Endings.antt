@@ -76,7 +76,6 @@ not_usage : (h : Halt) → status_of h ≡ status.Usage → ⊥
 not_usage halt.NoInput is = omega (arith, ap code_of is)
 not_usage (halt.BadLine line code) is = omega (arith, ap code_of is)
 not_usage (halt.BadFile line code) is = omega (arith, ap code_of is)
-not_usage halt.NotBuilt is = omega (arith, ap code_of is)
 not_usage (halt.TooLarge what) is = omega (arith, ap code_of is)
 not_usage halt.FileFault is = omega (arith, ap code_of is)
 
@@ -84,7 +83,6 @@ not_done : (h : Halt) → status_of h ≡ status.Done → ⊥
 not_done halt.NoInput is = omega (arith, ap code_of is)
 not_done (halt.BadLine line code) is = omega (arith, ap code_of is)
 not_done (halt.BadFile line code) is = omega (arith, ap code_of is)
-not_done halt.NotBuilt is = omega (arith, ap code_of is)
 not_done (halt.TooLarge what) is = omega (arith, ap code_of is)
 not_done halt.FileFault is = omega (arith, ap code_of is)
 
@@ -92,7 +90,6 @@ not_sink_fault : (h : Halt) → status_of h ≡ status.SinkFault → ⊥
 not_sink_fault halt.NoInput is = omega (arith, ap code_of is)
 not_sink_fault (halt.BadLine line code) is = omega (arith, ap code_of is)
 not_sink_fault (halt.BadFile line code) is = omega (arith, ap code_of is)
-not_sink_fault halt.NotBuilt is = omega (arith, ap code_of is)
 not_sink_fault (halt.TooLarge what) is = omega (arith, ap code_of is)
 not_sink_fault halt.FileFault is = omega (arith, ap code_of is)
 
@@ -100,7 +97,6 @@ is_file_fault : (h : Halt) → status_of h ≡ status.FileFault → h ≡ halt.F
 is_file_fault halt.NoInput is = absurd (omega (arith, ap code_of is))
 is_file_fault (halt.BadLine line code) is = absurd (omega (arith, ap code_of is))
 is_file_fault (halt.BadFile line code) is = absurd (omega (arith, ap code_of is))
-is_file_fault halt.NotBuilt is = absurd (omega (arith, ap code_of is))
 is_file_fault (halt.TooLarge what) is = absurd (omega (arith, ap code_of is))
 is_file_fault halt.FileFault is = refl
 
@@ -244,7 +240,6 @@ module _ (ended : Status) (before now : Option (List ℕ)) where
     halted_ends t due halt.NoInput is put = halt_ends due halt.NoInput _ is tt refl put
     halted_ends t due (halt.BadLine line code) is put = halt_ends due (halt.BadLine line code) _ is tt refl put
     halted_ends t due (halt.BadFile line code) is put = halt_ends due (halt.BadFile line code) _ is tt refl put
-    halted_ends t due halt.NotBuilt is put = halt_ends due halt.NotBuilt _ is tt refl put
     halted_ends t due (halt.TooLarge what) is put = halt_ends due (halt.TooLarge what) _ is tt refl put
     halted_ends t due halt.FileFault is (inl all) =
         nothing_ends ended tree tree_now before now due stop.FileFault all.0 (same, nothing_got ended before now (inl all))
@@ -262,7 +257,6 @@ halted_status : (t : Tables) (due : Out) (h : Halt) → IsOutput t (Err (refusal
 halted_status t due halt.NoInput is failed = ap (λ (o : Out). o.status) (sym is)
 halted_status t due (halt.BadLine line code) is failed = ap (λ (o : Out). o.status) (sym is)
 halted_status t due (halt.BadFile line code) is failed = ap (λ (o : Out). o.status) (sym is)
-halted_status t due halt.NotBuilt is failed = ap (λ (o : Out). o.status) (sym is)
 halted_status t due (halt.TooLarge what) is failed = ap (λ (o : Out). o.status) (sym is)
 halted_status t due halt.FileFault is failed = absurd (failed refl)
 

@@ -35,7 +35,6 @@ module _ {X Y : Type 0} (view : X → Y) where
   told-of (Err (refusal.Because halt.NoInput)) given is = is
   told-of (Err (refusal.Because (halt.BadLine line code))) given is = is
   told-of (Err (refusal.Because (halt.BadFile line code))) given is = is
-  told-of (Err (refusal.Because halt.NotBuilt)) given is = is
   told-of (Err (refusal.Because (halt.TooLarge what))) given is = is
 
   -- and no fault of the files where that isn't one
@@ -50,7 +49,6 @@ module _ {X Y : Type 0} (view : X → Y) where
     told-on (refusal.Because halt.NoInput) given is = ap on is ∙ stops halt.NoInput
     told-on (refusal.Because (halt.BadLine line code)) given is = ap on is ∙ stops (halt.BadLine line code)
     told-on (refusal.Because (halt.BadFile line code)) given is = ap on is ∙ stops (halt.BadFile line code)
-    told-on (refusal.Because halt.NotBuilt) given is = ap on is ∙ stops halt.NotBuilt
     told-on (refusal.Because (halt.TooLarge what)) given is = ap on is ∙ stops (halt.TooLarge what)
 
   -- and what the run leaves of it
@@ -61,5 +59,4 @@ module _ {X Y : Type 0} (view : X → Y) where
     told-out t (refusal.Because halt.NoInput) given is = ap on is ∙ stops halt.NoInput
     told-out t (refusal.Because (halt.BadLine line code)) given is = ap on is ∙ stops (halt.BadLine line code)
     told-out t (refusal.Because (halt.BadFile line code)) given is = ap on is ∙ stops (halt.BadFile line code)
-    told-out t (refusal.Because halt.NotBuilt) given is = ap on is ∙ stops halt.NotBuilt
     told-out t (refusal.Because (halt.TooLarge what)) given is = ap on is ∙ stops (halt.TooLarge what)

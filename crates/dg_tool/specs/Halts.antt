@@ -31,7 +31,6 @@ abbrev pub status_of : Halt → Status
 status_of halt.NoInput = status.NoInput
 status_of (halt.BadLine line code) = status.Syntax
 status_of (halt.BadFile line code) = status.Syntax
-status_of halt.NotBuilt = status.Syntax
 status_of (halt.TooLarge what) = status.TooLarge
 status_of halt.FileFault = status.FileFault
 
@@ -54,6 +53,5 @@ abbrev pub halt_lines : Halt → List (List ℕ)
 halt_lines halt.NoInput = error_line (codes "no input") ∷ []
 halt_lines (halt.BadLine line code) = error_line (bad_line_text line code) ∷ []
 halt_lines (halt.BadFile line code) = error_line (bad_file_text line code) ∷ []
-halt_lines halt.NotBuilt = error_line (codes "not built") ∷ []
 halt_lines (halt.TooLarge what) = error_line (codes "too large " ++ limit_text what) ∷ []
 halt_lines halt.FileFault = []

@@ -62,16 +62,17 @@ Tells view (Err (refusal.Because halt.FileFault)) given = Unit {0}
 Tells view (Err (refusal.Because h)) given = given ≡ Err h
 Tells view (Err refusal.NoMemory) given = Unit {0}
 
--- what a run starts with: the commands, the state before the first, the bad places of the project, and for how many
--- entries the shared cache has room
+-- what a run starts with: the commands, the state before the first, the bad places of the project and how many files
+-- of it were read, and for how many entries the shared cache has room
 pub record Start : Type 0 where
   pub commands : List Command
   pub begin : State
   pub bad : List BadPlace
+  pub file_count : ℕ
   pub capacity : ℕ
 
 abbrev pub start_with : List Command → ℕ → Project → Start
-start_with commands capacity p = record { commands = commands; begin = p.begin; bad = p.bad; capacity = capacity }
+start_with commands capacity p = record { commands = commands; begin = p.begin; bad = p.bad; file_count = p.file_count; capacity = capacity }
 
 -- the script is read before the project
 abbrev pub start_of : Tables → Tree → ℕ → Result (List Command) Halt → Result Start Halt

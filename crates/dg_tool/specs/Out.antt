@@ -33,6 +33,8 @@ use Rattle.dg_play.specs.Play.{Reply, Done, Empty, LineFull, NothingToUndo, Noth
 use Rattle.dg_play.specs.Work.{Work, work_of}
 use Rattle.dg_play.specs.Desk.{answers_in}
 use Rattle.dg_sources.specs.declared.bad.BadPlace.{BadPlace}
+use Rattle.dg_gen.specs.Project.{project_files, project_script}
+use Rattle.dg_sums.specs.Sums.{sum_lines}
 use Rattle.dg_tool.specs.Project.{Project, loaded}
 use Rattle.dg_tool.specs.Input.{Start, build_cache, build_script, commands_in, script_of, start_of}
 use Rattle.dg_tool.specs.Format.{formatted_in}
@@ -185,13 +187,25 @@ start_of_run t tree script cache = start_of t tree cache (script_of tree script)
 abbrev pub start_of_build : Tables → Tree → List ℕ → Result Start Halt
 start_of_build t tree path = start_of t tree build_cache (commands_in (build_script path))
 
--- a script is played without workers, whatever their number. No project is made yet
+-- the project that is made from a seed, and its script: no file is read
+abbrev pub start_of_gen : Tables → ℕ → ℕ → ℕ → Result Start Halt
+start_of_gen t seed size cache = start_of t (project_files seed size) cache (commands_in (project_script seed size))
+
+-- what it comes to is told in four lines, and none of its own: no line of the script, and no build file
+abbrev pub gen_lines : Tables → Start → List (List ℕ)
+gen_lines t s = sum_lines t s.file_count (length (graph_now s.begin).nodes) (length (graph_now s.begin).arcs) s.commands (played_from t s)
+
+abbrev pub out_of_gen : Tables → Result Start Halt → Out
+out_of_gen t (Ok s) = done (played_from t s) (map Put (gen_lines t s))
+out_of_gen t (Err h) = halted h
+
+-- a script is played without workers, whatever their number
 abbrev pub out_of_task : Tables → Tree → Task → Out
 out_of_task t tree (Run script workers cache stats) = out_of_start t stats (start_of_run t tree script cache)
 out_of_task t tree (Format path) = out_of_text (formatted_in tree path)
 out_of_task t tree Check = out_of_text (checked t tree)
 out_of_task t tree (Build path workers) = out_of_start t false (start_of_build t tree path)
-out_of_task t tree (Gen seed size workers cache) = halted halt.NotBuilt
+out_of_task t tree (Gen seed size workers cache) = out_of_gen t (start_of_gen t seed size cache)
 
 abbrev pub out_of_words : Tables → Tree → Result Task Usage → Out
 out_of_words t tree (Ok task) = out_of_task t tree task

@@ -50,13 +50,15 @@ bind_loaded made bs bound = fold (bind_next made) bound bs
 pub record Project : Type 0 where
   pub begin : State
   pub bad : List BadPlace
+  -- how many files were read
+  pub file_count : ℕ
 
 -- the state with the names that the load interned and bound
 abbrev pub with_loaded : List (List ℕ) → List NodeId → Loaded → State → State
 with_loaded names made l s = with_names (with_bound s (bind_loaded made l.bound s.bound)) names
 
 abbrev pub begun : List (List ℕ) → List NodeId → Loaded → Result State RefusedStep → Result Project Halt
-begun names made l (Ok s) = Ok (record { begin = with_loaded names made l s; bad = l.bad })
+begun names made l (Ok s) = Ok (record { begin = with_loaded names made l s; bad = l.bad; file_count = l.file_count })
 begun names made l (Err r) = Err (halt.TooLarge (limit_of_step r.code))
 
 abbrev pub project_of : Tables → List (List ℕ) → Loaded → Result Project Halt

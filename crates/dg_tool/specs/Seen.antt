@@ -20,7 +20,7 @@ use Rattle.dg_tool.specs.Project.{Project}
 use Rattle.dg_tool.specs.Out.{built_deeds, line_text, unless_large}
 
 abbrev pub seen_project : CodeProject → Project
-seen_project p = record { begin = state_of p.begin; bad = p.bad }
+seen_project p = record { begin = state_of p.begin; bad = p.bad; file_count = p.file_count }
 
 -- a state in which nothing was played
 pub record IsOpened (s : CodeState) : Type 0 where

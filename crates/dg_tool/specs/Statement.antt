@@ -25,7 +25,7 @@ use Rattle.std.specs.declared.alloc.Global.{Global}
 use Rattle.dg_tool.specs.declared.output.Output.{Output}
 use Rattle.dg_tool.specs.declared.piece.Piece.{Piece}
 use Rattle.dg_tool.specs.Input.{Start}
-use Rattle.dg_tool.specs.Out.{Out, halted, start_of_build, start_of_run, work_from}
+use Rattle.dg_tool.specs.Out.{Out, halted, start_of_build, start_of_gen, start_of_run, work_from}
 use Rattle.dg_tool.specs.Seen.{deeds_of}
 
 -- the statuses that a call of the outside, or want of memory, may end a run with; each other one is due
@@ -71,6 +71,7 @@ IsDeskOfStart t _ _ = ⊥
 abbrev pub IsDeskOfTask : {M : Type 0} → Tables → Tree → Task → Option (Desked Seen M) → Type 0
 IsDeskOfTask t tree (Run script workers cache stats) desk = IsDeskOfStart t (start_of_run t tree script cache) desk
 IsDeskOfTask t tree (Build path workers) desk = IsDeskOfStart t (start_of_build t tree path) desk
+IsDeskOfTask t tree (Gen seed size workers cache) desk = IsDeskOfStart t (start_of_gen t seed size cache) desk
 IsDeskOfTask t tree _ desk = desk ≡ None
 
 abbrev pub IsDeskOfWords : {M : Type 0} → Tables → Tree → Result Task Usage → Option (Desked Seen M) → Type 0
@@ -85,6 +86,7 @@ made_by_start t (Err h) = 0
 abbrev pub made_by_task : Tables → Tree → Task → ℕ
 made_by_task t tree (Run script workers cache stats) = made_by_start t (start_of_run t tree script cache)
 made_by_task t tree (Build path workers) = made_by_start t (start_of_build t tree path)
+made_by_task t tree (Gen seed size workers cache) = made_by_start t (start_of_gen t seed size cache)
 made_by_task t tree _ = 0
 
 abbrev pub made_by_words : Tables → Tree → Result Task Usage → ℕ
@@ -99,6 +101,13 @@ WritesNothing (Ok (Format path)) = Unit {0}
 WritesNothing (Ok (Gen seed size workers cache)) = Unit {0}
 WritesNothing (Ok _) = ⊥
 WritesNothing (Err e) = Unit {0}
+
+-- ---- and words for which no file is read
+
+abbrev pub NeedsNoFiles : Result Task Usage → Type 0
+NeedsNoFiles (Ok (Gen seed size workers cache)) = Unit {0}
+NeedsNoFiles (Ok _) = ⊥
+NeedsNoFiles (Err e) = Unit {0}
 
 -- ---- the parts of a run
 

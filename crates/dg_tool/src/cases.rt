@@ -422,6 +422,39 @@ pub(crate) static WORDS_ENDED: [(&str, u8, &str); 17] = [
     ),
     ("check", 0, "nodes 0 arcs 0 bad 0\n"),
     ("build /e.txt", 0, "1: NoName\n"),
-    ("gen 7 1", 3, "error: not built\n"),
+    (
+        "gen 7 1",
+        0,
+        "files 3 nodes 7 arcs 4\nedits 2 undos 1 redos 1 asks 2\ngood 2 bad 0 cycle 0\nbuilt 2 sum 68\n",
+    ),
     ("gen 7 65", 1, "error: usage\n"),
+];
+
+/// Words that make a project, the number of the put that fails (0 for none), the status and what is printed.
+pub(crate) static MADE: [(&str, u64, u8, &str); 4] = [
+    (
+        "gen 7 1 --workers 0",
+        0,
+        0,
+        "files 3 nodes 7 arcs 4\nedits 2 undos 1 redos 1 asks 2\ngood 2 bad 0 cycle 0\nbuilt 2 sum 68\n",
+    ),
+    (
+        "gen 7 2",
+        0,
+        0,
+        "files 6 nodes 19 arcs 10\nedits 4 undos 2 redos 2 asks 4\ngood 4 bad 0 cycle 0\nbuilt 3 sum 186\n",
+    ),
+    // The same draws: the seed counts modulo 2^31.
+    (
+        "gen 2147483655 1 --cache 1",
+        0,
+        0,
+        "files 3 nodes 7 arcs 4\nedits 2 undos 1 redos 1 asks 2\ngood 2 bad 0 cycle 0\nbuilt 2 sum 68\n",
+    ),
+    (
+        "gen 7 2 --workers 16",
+        3,
+        5,
+        "files 6 nodes 19 arcs 10\nedits 4 undos 2 redos 2 asks 4\n",
+    ),
 ];

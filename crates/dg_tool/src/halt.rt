@@ -36,7 +36,6 @@ pub enum Halt {
     BadLine { line: u32, code: ScriptCode },
     /// The file can't be read: the line of the first place that can't go on, and why.
     BadFile { line: u32, code: BadCode },
-    NotBuilt,
     TooLarge(Limit),
     FileFault,
 }
@@ -49,7 +48,6 @@ impl Halt {
             Halt::NoInput => Status::NoInput,
             Halt::BadLine { .. } => Status::Syntax,
             Halt::BadFile { .. } => Status::Syntax,
-            Halt::NotBuilt => Status::Syntax,
             Halt::TooLarge(_) => Status::TooLarge,
             Halt::FileFault => Status::FileFault,
         }
@@ -64,7 +62,6 @@ impl Halt {
             Halt::NoInput => lines.push(text::error(alloc, b"no input")?)?,
             Halt::BadLine { line, code } => lines.push(text::bad_line(alloc, line, code)?)?,
             Halt::BadFile { line, code } => lines.push(text::bad_file(alloc, line, code)?)?,
-            Halt::NotBuilt => lines.push(text::error(alloc, b"not built")?)?,
             Halt::TooLarge(limit) => lines.push(text::too_large(alloc, limit)?)?,
             Halt::FileFault => {}
         }

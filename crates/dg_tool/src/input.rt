@@ -51,7 +51,7 @@ pub(crate) fn script_of<F: Files>(
 }
 
 /// The commands of a script by its bytes, of which there are at most 1 MiB.
-fn commands_in(alloc: Global, bytes: &[u8]) -> Result<Script, Refusal<Halt>>
+pub(crate) fn commands_in(alloc: Global, bytes: &[u8]) -> Result<Script, Refusal<Halt>>
     ensures { Gives (λ commands. commands) result (commands_in bytes.now) }
 {
     if line_count(bytes) > MAX_LINES {

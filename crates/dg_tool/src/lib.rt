@@ -5,10 +5,10 @@
 //! `specs/Statement` says what a run leaves.
 //!
 //! In reading order: `status` how a run ends and `halt` what ends it before a line is put; `size` counts a script's
-//! lines, `built` tells what is played yet, `project` loads the project, and `input` reads what a run starts with; `format` formats a
-//! file; `text` has the
-//! printed texts, `page` the lines that fit, and `lines` is the last pass, which prints all lines; `output` is all that
-//! is known before the first put, `printing` puts lines, and `run` is the top call.
+//! lines, `project` loads the project, and `input` reads what a run starts with; `format` formats a file; `text` has the
+//! printed texts, `piece` a line with what is written before it, `page` the lines that fit, and `lines` is the last pass,
+//! which prints all lines; `making` makes a project and plays it; `output` is all that is known before the first deed,
+//! `doing` does it, and `run` is the top call.
 //! [`worked`] states cases that the checker computes.
 #![tactic(auto)]
 
@@ -19,6 +19,7 @@ mod format;
 mod halt;
 mod input;
 mod lines;
+mod making;
 mod output;
 mod page;
 mod piece;

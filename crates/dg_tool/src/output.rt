@@ -16,6 +16,7 @@ use crate::format::formatted_in;
 use crate::halt::Halt;
 use crate::input::{BUILD_CACHE, build_commands, script_of};
 use crate::lines::{checked, printed};
+use crate::making::gen_output;
 use crate::piece::Pieces;
 use crate::project::{Project, loaded};
 use crate::text::stats_line;
@@ -70,7 +71,12 @@ pub(crate) fn output_of<F: Files, L: Ledger>(
         },
         Task::Check => alone(alloc, checked_in(alloc, files)),
         Task::Format { path } => alone(alloc, formatted_in(alloc, files, path.as_str())),
-        Task::Gen { .. } => Err(Refusal::Because(Halt::NotBuilt)),
+        Task::Gen {
+            seed,
+            size,
+            workers: _,
+            cache,
+        } => gen_output(alloc, seed, size, cache, steps),
     }
 }
 

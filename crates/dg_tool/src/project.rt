@@ -16,11 +16,13 @@ use dg_play::State;
 use dg_sources::{BadPlaces, Large, LoadEnd};
 use std::alloc::{AllocError, Global};
 
-/// A project that was loaded: the state that a script begins with, and the bad places of its files.
+/// A project that was loaded: the state that a script begins with, the bad places of its files, and how many of them were
+/// read.
 #[derive(Drop)]
 pub(crate) struct Project {
     pub(crate) begin: State,
     pub(crate) bad: BadPlaces,
+    pub(crate) file_count: u32,
 }
 
 /// Loads the project, with a cache for so many entries. The files are read and nothing else.
@@ -84,6 +86,7 @@ pub(crate) fn project_of(
         Ok(()) => Ok(Project {
             begin,
             bad: loaded.bad,
+            file_count: loaded.file_count,
         }),
         Err(_) => Err(Refusal::NoMemory),
     }

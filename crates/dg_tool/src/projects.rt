@@ -150,6 +150,18 @@ pub(crate) static PROJECTS: [Case<'static>; 9] = [
     },
 ];
 
+/// Two game objects beside a script.
+pub(crate) static FAILING: Case<'static> = Case {
+    files: &[
+        ("/a.go", b""),
+        ("/b.go", b""),
+        ("/e.txt", b"make Num a\nask now a.value\n"),
+    ],
+    words: "run /e.txt --workers 0",
+    status: 4,
+    text: "",
+};
+
 /// A build by the project's files, the words of a run, the numbers of the call of the files and of the put that fail (0 for
 /// none), how many bytes a put takes, its status, what it prints, and what it leaves in build files (nothing for one that
 /// isn't there).

@@ -13,7 +13,7 @@ pub enum Status {
     Usage,
     /// No such script.
     NoInput,
-    /// The script has a bad line, or a command that isn't played yet.
+    /// The script has a bad line, or the file that is formatted.
     Syntax,
     /// A call of the files failed.
     FileFault,

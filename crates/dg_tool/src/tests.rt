@@ -1,10 +1,10 @@
 ghost use Rattle.std.specs.Prelude.{◌≡◌, ◌<◌};
 
 use crate::cases::{
-    EDITED, FIRST, FIRST_LINES, FORMATTED, GRAPHS, NAMES, OVERRIDES, REFUSED, SPELLED, TEN,
+    EDITED, FIRST, FIRST_LINES, FORMATTED, GRAPHS, MADE, NAMES, OVERRIDES, REFUSED, SPELLED, TEN,
     WORDS_ENDED, WORKED, Worked,
 };
-use crate::projects::{BUILDS, Build, Case, PROJECTS};
+use crate::projects::{BUILDS, Build, Case, FAILING, PROJECTS};
 use crate::{Ended, run_alone};
 use dg_base::Steps;
 use dg_files::{MemFiles, MemSink, are_distinct};
@@ -94,8 +94,8 @@ fn ends(
     text: &str,
 ) -> Result<bool, AllocError> {
     let (ended, printed) = run(alloc, words, outside)?;
-    let played = (words.starts_with("run") || words.starts_with("build"))
-        && ended.status.code() == 0;
+    let plays = words.starts_with("run") || words.starts_with("build") || words.starts_with("gen");
+    let played = plays && ended.status.code() == 0;
     Ok(
         ended.status.code() == status
             && printed.as_slice() == text.as_bytes()
@@ -212,6 +212,50 @@ fn projects_are_loaded_and_checked(rt: HostRuntime) -> Result<(), Fail> {
     for case in PROJECTS.iter() {
         assert!(rt; prints(rt.alloc(), case, 0)?, "{}", case.text);
     }
+    // The script, the list, the two files: where one of these calls fails, nothing is printed.
+    for call in 1..5 {
+        assert!(rt; prints(rt.alloc(), &FAILING, call)?, "{call}");
+    }
+    Ok(())
+}
+
+/// Whether the project of so many scripts of so many blanks each, and one blank more in the last one where it is to have
+/// that, is checked so.
+fn blanks_are(
+    alloc: Global,
+    count: usize,
+    size: usize,
+    more: usize,
+    text: &str,
+) -> Result<bool, AllocError> {
+    let mut tree = Vec::new(alloc);
+    for number in 0..count {
+        let path = format!(in alloc; "/{number}.script")?;
+        let bytes = if number == 0 { more } else { size };
+        tree.push((path, vec![in alloc; b' '; bytes]?))?;
+    }
+    if !are_distinct(&tree) {
+        return Err(AllocError);
+    }
+    let mut files = MemFiles::new(alloc, tree, Vec::new(alloc));
+    let mut out = MemSink::new(alloc, Vec::new(alloc), 4096);
+    let words = words_of(alloc, "check")?;
+    played(alloc, words.as_slice(), &mut files, &mut out);
+    Ok(out.as_slice() == text.as_bytes())
+}
+
+#[test]
+fn a_project_has_at_most_4096_files_of_64_mib(rt: HostRuntime) -> Result<(), Fail> {
+    let alloc = rt.alloc();
+    for (count, size, more, text) in [
+        (4096, 0, 0, "nodes 4096 arcs 0 bad 0\n"),
+        (4097, 0, 0, "error: too large files\n"),
+        (64, 1_048_576, 1_048_576, "nodes 64 arcs 0 bad 0\n"),
+        (65, 1_048_576, 1, "error: too large total\n"),
+        (2, 0, 1_048_577, "error: too large file\n"),
+    ] {
+        assert!(rt; blanks_are(alloc, count, size, more, text)?, "{count}");
+    }
     Ok(())
 }
 
@@ -223,6 +267,27 @@ fn the_words_decide_first(rt: HostRuntime) -> Result<(), Fail> {
             ends(alloc, words, &sound("make"), *status, text)?,
             "{words}"
         );
+    }
+    Ok(())
+}
+
+#[test]
+fn a_project_is_made_and_played_without_a_call_of_the_files(rt: HostRuntime) -> Result<(), Fail> {
+    let alloc = rt.alloc();
+    for (words, failing_put, status, text) in &MADE {
+        for failing_read in [0, 1] {
+            let outside = Outside {
+                path: "/g/c0.collection",
+                script: b"name: \"of another\"",
+                failing_read,
+                failing_put: *failing_put,
+                most: 4096,
+            };
+            assert!(rt;
+                ends(alloc, words, &outside, *status, text)?,
+                "{words} {failing_read}"
+            );
+        }
     }
     Ok(())
 }
