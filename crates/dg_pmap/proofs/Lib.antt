@@ -7,3 +7,8 @@ pub mod Takes
 pub mod Shapes
 pub mod Orders
 pub mod Places
+pub mod Runs
+pub mod Lookups
+pub mod Indexes
+pub mod Parted
+pub mod Crosses

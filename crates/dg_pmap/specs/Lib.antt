@@ -4,3 +4,4 @@ pub mod Heights
 pub mod Firsts
 pub mod Shape
 pub mod Falls
+pub mod Indexes
