@@ -1,0 +1,5 @@
+-- In reading order: each module uses only the ones before it.
+pub mod PairOrder
+pub mod PairKeys
+pub mod Walking
+pub mod Leasts
