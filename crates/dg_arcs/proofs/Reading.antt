@@ -1,5 +1,5 @@
 -- What is read of one node from the indexes.
-use Rattle.std.proofs.Common.{◌≡◌, ℕ, Bool, ◌&&◌, List, [], ◌∷◌, map, filter, drop, nat_cmp, refl, sym, ap, ◌∙◌}
+use Rattle.std.proofs.Common.{◌≡◌, ℕ, Bool, ◌&&◌, List, [], ◌∷◌, map, filter, drop, refl, sym, ap, ◌∙◌}
 use Rattle.std.specs.Map.{values_of}
 use Rattle.dg_base.specs.declared.ids.NodeId.{NodeId}
 use Rattle.dg_base.specs.declared.ids.Label.{Label}

@@ -10,10 +10,10 @@ use std::marker::Model;
 
 /// Arcs in the order in which they were connected, each once. Contracts see the list.
 ///
-/// Each arc stands under a number that no arc before it had: the numbers rise by one with each arc, so the order
-/// of the numbers is that of the list, also within an index. The numbers are those of 64 bits: an arc in each
-/// nanosecond of five centuries would use them up, and no run lasts as long. Where the last one is given out,
-/// an arc more is refused as where there is no memory.
+/// Each arc stands under a number that no arc before it had: the numbers rise by one with each arc, so
+/// the order of the numbers is that of the list, also within an index. The numbers are those of 64
+/// bits: an arc in each nanosecond of five centuries would use them up, and no run lasts as long. Where
+/// the last one is given out, an arc more is refused as where there is no memory.
 #[derive(Drop)]
 pub struct Arcs {
     pub(crate) alloc: Global,
@@ -66,9 +66,9 @@ impl Arcs {
         self.places.contains_key(&arc)
     }
 
-    /// Adds an arc as the last one, unless it is there, and says whether it is new. In time logarithmic in the
-    /// arcs. Nothing is touched where the arc is there; where there is no memory, or no number is left, the arcs
-    /// are as before.
+    /// Adds an arc as the last one, unless it is there, and says whether it is new. In time logarithmic
+    /// in the arcs. Nothing is touched where the arc is there; where there is no memory, or no number
+    /// is left, the arcs are as before.
     pub fn add(&mut self, arc: ArcRec) -> Result<bool, AllocError>
         ensures ok { OnOk result (self.new ≡ with_new_arc self.old arc) }
         ensures added { IfOk result (λ added. added ≡ not (is_arc (arcs_alone self.old) arc)) }
@@ -105,8 +105,8 @@ impl Arcs {
         Ok(())
     }
 
-    /// Removes an arc, and says whether it was there. In time logarithmic in the arcs. Nothing is touched where
-    /// the arc isn't there; where there is no memory the arcs are as before.
+    /// Removes an arc, and says whether it was there. In time logarithmic in the arcs. Nothing is
+    /// touched where the arc isn't there; where there is no memory the arcs are as before.
     pub fn remove(&mut self, arc: ArcRec) -> Result<bool, AllocError>
         ensures ok { OnOk result (self.new ≡ (without_arc (arcs_alone self.old) arc).arcs) }
         ensures there { IfOk result (λ there. there ≡ is_arc (arcs_alone self.old) arc) }
@@ -129,8 +129,8 @@ impl Arcs {
         Ok(true)
     }
 
-    /// Equal arcs that share all that these hold, in constant time. No change of the one shows in the other. It
-    /// is refused where the count of shares is full.
+    /// Equal arcs that share all that these hold, in constant time. No change of the one shows in the
+    /// other. It is refused where the count of shares is full.
     pub fn share(&self) -> Result<Arcs, AllocError>
         ensures { IfOk result (λ again. again ≡ self.now) }
     {

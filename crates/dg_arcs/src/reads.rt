@@ -11,8 +11,9 @@ use dg_pmap::PMap;
 use std::alloc::{AllocError, Global};
 
 impl Arcs {
-    /// The sources of the arcs into an input, in the order in which they were connected. The first is found in
-    /// time logarithmic in the arcs, and so is each chunk of those that follow; the other arcs are not read.
+    /// The sources of the arcs into an input, in the order in which they were connected. The first is
+    /// found in time logarithmic in the arcs, and so is each chunk of those that follow; the other arcs
+    /// are not read.
     pub fn explicit_sources(&self, node: NodeId, input: Label) -> Result<Vec<Endpoint>, AllocError>
         ensures { IfOk result (λ v. v.items ≡ explicit_sources (arcs_alone self.now) node input) }
     {
@@ -21,9 +22,9 @@ impl Arcs {
         Ok(sources)
     }
 
-    /// The arcs from a node's properties and outputs, in the order in which they were connected. The first is
-    /// found in time logarithmic in the arcs, and so is each chunk of those that follow; the other arcs are not
-    /// read.
+    /// The arcs from a node's properties and outputs, in the order in which they were connected. The
+    /// first is found in time logarithmic in the arcs, and so is each chunk of those that follow; the
+    /// other arcs are not read.
     pub fn out_of(&self, node: NodeId) -> Result<Vec<ArcRec>, AllocError>
         ensures { IfOk result (λ v. v.items ≡ arcs_out_of self.now node) }
     {

@@ -1,4 +1,4 @@
-use Rattle.std.proofs.Common.{◌≡◌, ◌+◌, rules, arith, ap, ◌∙◌}
+use Rattle.std.proofs.Common.{◌≡◌, ◌+◌, rules, ap, ◌∙◌}
 use Rattle.std.specs.Map.{values_of}
 use Rattle.dg_base.specs.Changes.{is_arc, with_arc}
 use Rattle.dg_arcs.specs.ArcLists.{arcs_alone}
