@@ -102,13 +102,6 @@ WritesNothing (Ok (Gen seed size workers cache)) = Unit {0}
 WritesNothing (Ok _) = ⊥
 WritesNothing (Err e) = Unit {0}
 
--- ---- and words for which no file is read
-
-abbrev pub NeedsNoFiles : Result Task Usage → Type 0
-NeedsNoFiles (Ok (Gen seed size workers cache)) = Unit {0}
-NeedsNoFiles (Ok _) = ⊥
-NeedsNoFiles (Err e) = Unit {0}
-
 -- ---- the parts of a run
 
 -- what is known before the first deed: the deeds of a run that is done, or what ends it before

@@ -31,8 +31,10 @@ pub struct Ended {
     pub desk: Option<ScriptDesk>,
 }
 
-/// Does what the words of a command line say, on this thread alone: reads the script, plays it, and
-/// puts its lines, or formats a file. Nothing is written to the files. It waits for nobody and always returns.
+/// Does what the words of a command line say, on this thread alone: loads the project and plays a script over it, or
+/// builds, checks or formats a part of it, or plays a project that it makes. It puts its lines, and before the line of a
+/// build it writes the build's files, all of them below `/build/default`; nothing else is written. It waits for nobody
+/// and always returns.
 ///
 /// A count of failures that stands at its greatest, 2^64 - 1, can't rise, so there a failure can't be
 /// told from none; below it, `complete` says that nothing is hidden.
@@ -42,8 +44,8 @@ pub struct Ended {
 /// with the same counter. `work` counts the productions: as many as playing the commands over a cache of this
 /// size needs, and no more.
 ///
-/// In time linear in the script and the output and, for each transaction and each endpoint that an `ask`
-/// evaluates, in the graph so far.
+/// In time linear in the script, the project's files and the output and, for each transaction and each endpoint that an
+/// `ask` or a `build` evaluates, in the graph so far. A build's files are made twice.
 pub fn run_alone<F: Files, S: Sink, L: Ledger>(
     alloc: Global,
     words: &[String],
