@@ -2,7 +2,7 @@
 use Rattle.std.proofs.Common.{◌≡◌, ◌⊎◌, List, ℕ, [], ◌∷◌, ◌++◌, map, Option, Some, None, refl, sym, ap, ◌∙◌, subst, inl, inr, arith, take, zero, suc, ◌+◌, ◌-◌, ◌^◌, ◌≤◌, le_trans}
 use Rattle.std.proofs.Math.Nat.{le-min, min-le_left, min-le_right}
 use Rattle.std.proofs.lemmas.List.{append-nil}
-use Rattle.std.specs.Prelude.{Result, Ok, Err}
+use Rattle.std.specs.Prelude.{Ok, Err}
 use Rattle.std.specs.Option.{option_map}
 use Rattle.dg_base.specs.Tables.{Tables}
 use Rattle.dg_base.specs.declared.refusal.Refusal.TheVariants as refusal
@@ -15,9 +15,6 @@ use Rattle.dg_deeds.specs.Printed.{GotAll, GotPrefix, text_of}
 use Rattle.dg_deeds.proofs.Parts.{IsBegun-line, IsBegun-lines, IsBegun-lines-fault, text_after-lines, lines_in-lines, tree_after-lines}
 use Rattle.dg_files.specs.Outcome.{Rose}
 use Rattle.dg_files.specs.Tree.{Tree}
-use Rattle.dg_words.specs.declared.task.Task.{Task}
-use Rattle.dg_words.specs.declared.task.Usage.{Usage}
-use Rattle.dg_words.specs.Paths.{usage as no_task}
 use Rattle.dg_tool.specs.declared.status.Status.{Status}
 use Rattle.dg_tool.specs.declared.status.Status.TheVariants as status
 use Rattle.dg_tool.specs.declared.halt.Halt.{Halt}
@@ -30,35 +27,27 @@ use Rattle.dg_tool.specs.Statement.{AreDone, IsDue, EndsAs, IsOutput, IsPut}
 
 -- ---- statuses
 
-differs : {a b : Status} → a ≡ b → code_of a ≡ code_of b
-differs is = ap code_of is
-
 no_cut_due : (s : Stop) → IsDue (cut_status s) → ⊥
 no_cut_due stop.FileFault d = d
 no_cut_due stop.SinkFault d = d
 no_cut_due stop.NoMemory d = d
 
-not_done-cut : (s : Stop) → status.Done ≡ cut_status s → ⊥
-not_done-cut stop.FileFault is = omega (arith, differs is)
-not_done-cut stop.SinkFault is = omega (arith, differs is)
-not_done-cut stop.NoMemory is = omega (arith, differs is)
-
 not_usage-cut : (s : Stop) → status.Usage ≡ cut_status s → ⊥
-not_usage-cut stop.FileFault is = omega (arith, differs is)
-not_usage-cut stop.SinkFault is = omega (arith, differs is)
-not_usage-cut stop.NoMemory is = omega (arith, differs is)
+not_usage-cut s is = no_cut_due s (subst IsDue is tt)
 
 -- a status tells why a run was cut off
+abbrev stop_of : Status → Stop
+stop_of status.FileFault = stop.FileFault
+stop_of status.SinkFault = stop.SinkFault
+stop_of _ = stop.NoMemory
+
+stop_of-cut : (s : Stop) → stop_of (cut_status s) ≡ s
+stop_of-cut stop.FileFault = refl
+stop_of-cut stop.SinkFault = refl
+stop_of-cut stop.NoMemory = refl
+
 one_stop : (s r : Stop) → cut_status s ≡ cut_status r → s ≡ r
-one_stop stop.FileFault stop.FileFault is = refl
-one_stop stop.FileFault stop.SinkFault is = absurd (omega (arith, differs is))
-one_stop stop.FileFault stop.NoMemory is = absurd (omega (arith, differs is))
-one_stop stop.SinkFault stop.FileFault is = absurd (omega (arith, differs is))
-one_stop stop.SinkFault stop.SinkFault is = refl
-one_stop stop.SinkFault stop.NoMemory is = absurd (omega (arith, differs is))
-one_stop stop.NoMemory stop.FileFault is = absurd (omega (arith, differs is))
-one_stop stop.NoMemory stop.SinkFault is = absurd (omega (arith, differs is))
-one_stop stop.NoMemory stop.NoMemory is = refl
+one_stop s r is = sym (stop_of-cut s) ∙ ap stop_of is ∙ stop_of-cut r
 
 -- no lines are due, and none are put
 got_none : (before now : Option (List ℕ)) → GotAll before now [] → now ≡ before
@@ -72,26 +61,29 @@ none_of_none (suc n) = refl
 prefix_of_none : (before now : Option (List ℕ)) → GotPrefix before now [] → now ≡ before
 prefix_of_none before now part = got_none before now (subst (GotAll before now) (none_of_none part.0) part.1)
 
+-- the statuses of what ends a run before its first line
+abbrev Halts : Status → Type 0
+Halts status.NoInput = Unit {0}
+Halts status.Syntax = Unit {0}
+Halts status.FileFault = Unit {0}
+Halts status.TooLarge = Unit {0}
+Halts _ = ⊥
+
+halts : (h : Halt) → Halts (status_of h)
+halts halt.NoInput = tt
+halts (halt.BadLine line code) = tt
+halts (halt.BadFile line code) = tt
+halts (halt.TooLarge what) = tt
+halts halt.FileFault = tt
+
 not_usage : (h : Halt) → status_of h ≡ status.Usage → ⊥
-not_usage halt.NoInput is = omega (arith, ap code_of is)
-not_usage (halt.BadLine line code) is = omega (arith, ap code_of is)
-not_usage (halt.BadFile line code) is = omega (arith, ap code_of is)
-not_usage (halt.TooLarge what) is = omega (arith, ap code_of is)
-not_usage halt.FileFault is = omega (arith, ap code_of is)
+not_usage h is = subst Halts is (halts h)
 
 not_done : (h : Halt) → status_of h ≡ status.Done → ⊥
-not_done halt.NoInput is = omega (arith, ap code_of is)
-not_done (halt.BadLine line code) is = omega (arith, ap code_of is)
-not_done (halt.BadFile line code) is = omega (arith, ap code_of is)
-not_done (halt.TooLarge what) is = omega (arith, ap code_of is)
-not_done halt.FileFault is = omega (arith, ap code_of is)
+not_done h is = subst Halts is (halts h)
 
 not_sink_fault : (h : Halt) → status_of h ≡ status.SinkFault → ⊥
-not_sink_fault halt.NoInput is = omega (arith, ap code_of is)
-not_sink_fault (halt.BadLine line code) is = omega (arith, ap code_of is)
-not_sink_fault (halt.BadFile line code) is = omega (arith, ap code_of is)
-not_sink_fault (halt.TooLarge what) is = omega (arith, ap code_of is)
-not_sink_fault halt.FileFault is = omega (arith, ap code_of is)
+not_sink_fault h is = subst Halts is (halts h)
 
 is_file_fault : (h : Halt) → status_of h ≡ status.FileFault → h ≡ halt.FileFault
 is_file_fault halt.NoInput is = absurd (omega (arith, ap code_of is))
@@ -275,11 +267,3 @@ sink_failed h (inr rises) = rises
 
 pub not_memory : status.NoMemory ≡ status.Done → ⊥
 not_memory is = omega (arith, ap code_of is)
-
--- words that say a task
-abbrev IsTask : Result Task Usage → Type 0
-IsTask (Ok task) = Unit {0}
-IsTask (Err e) = ⊥
-
-pub isnt_no_task : (task : Task) → Ok task ≡ no_task → ⊥
-isnt_no_task task is = subst IsTask is tt

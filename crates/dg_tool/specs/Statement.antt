@@ -1,5 +1,5 @@
 -- What a run leaves, against what is due: the output of the definitions for the words and the tree.
-use Rattle.std.specs.Prelude.{◌≡◌, ◌≤◌, ◌⊎◌, ℕ, List, [], Option, Some, None, Result, Ok, Err, Vec}
+use Rattle.std.specs.Prelude.{◌≡◌, ◌≤◌, ◌⊎◌, ℕ, List, [], Option, Some, None, Result, Ok, Err, Vec, Bool, true, false, IsTrue}
 use Rattle.std.specs.Option.{option_map}
 use Rattle.dg_files.specs.Outcome.{Rose}
 use Rattle.dg_files.specs.Tree.{Tree}
@@ -101,6 +101,17 @@ WritesNothing (Ok (Format path)) = Unit {0}
 WritesNothing (Ok (Gen seed size workers cache)) = Unit {0}
 WritesNothing (Ok _) = ⊥
 WritesNothing (Err e) = Unit {0}
+
+-- ---- tasks that need no files
+
+-- a project that is made from a seed is played over files of its own
+abbrev pub needs_no_files : Task → Bool
+needs_no_files (Gen seed size workers cache) = true
+needs_no_files _ = false
+
+abbrev pub NeedsNoFiles : Result Task Usage → Type 0
+NeedsNoFiles (Ok task) = IsTrue (needs_no_files task)
+NeedsNoFiles (Err e) = Unit {0}
 
 -- ---- the parts of a run
 

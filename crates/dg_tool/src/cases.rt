@@ -431,7 +431,7 @@ pub(crate) static WORDS_ENDED: [(&str, u8, &str); 17] = [
 ];
 
 /// Words that make a project, the number of the put that fails (0 for none), the status and what is printed.
-pub(crate) static MADE: [(&str, u64, u8, &str); 4] = [
+pub(crate) static MADE: [(&str, u64, u8, &str); 5] = [
     (
         "gen 7 1 --workers 0",
         0,
@@ -443,6 +443,12 @@ pub(crate) static MADE: [(&str, u64, u8, &str); 4] = [
         0,
         0,
         "files 6 nodes 19 arcs 10\nedits 4 undos 2 redos 2 asks 4\ngood 4 bad 0 cycle 0\nbuilt 3 sum 186\n",
+    ),
+    (
+        "gen 7 16 --workers 8",
+        0,
+        0,
+        "files 48 nodes 712 arcs 94\nedits 32 undos 16 redos 16 asks 32\ngood 32 bad 0 cycle 0\nbuilt 17 sum 5703\n",
     ),
     // The same draws: the seed counts modulo 2^31.
     (

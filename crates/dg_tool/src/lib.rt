@@ -13,6 +13,8 @@
 #![tactic(auto)]
 
 #[cfg(test)]
+mod cache_tests;
+#[cfg(test)]
 mod cases;
 mod doing;
 mod format;
@@ -24,6 +26,8 @@ mod output;
 mod page;
 mod piece;
 mod project;
+#[cfg(test)]
+mod project_tests;
 #[cfg(test)]
 mod projects;
 mod run;

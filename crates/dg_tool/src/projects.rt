@@ -257,7 +257,16 @@ const REBUILT_TEXT: &str = "1: built 2
 7: fault 8.build BadName
 ";
 
-pub(crate) static BUILDS: [Build<'static>; 8] = [
+const PLACED: (&str, &str) = (
+    "/build/default/a.collectionc",
+    "collection \"a\" 0
+object \"/a/b/go\" \"/a_object_0.goc\" 10.000000032 5.999999968 0 0 0 0.70710677 0.70710677 1 1 1
+child \"/a/b/kid\"
+object \"/a/b/kid\" \"/a_object_0.goc\" 1 0 0 0 0 0 1 1 1 1
+",
+);
+
+pub(crate) static BUILDS: [Build<'static>; 9] = [
     Build {
         files: EMBEDDED,
         words: "build /main/main.collection --workers 0",
@@ -348,5 +357,16 @@ pub(crate) static BUILDS: [Build<'static>; 8] = [
         status: 0,
         text: "bad /r.collection 2 Recursive\n1: fault 2.instance Defective\n",
         built: &[("/build/default/r.collectionc", "")],
+    },
+    // A collection in a collection: what is placed and turned above stands in one row.
+    Build {
+        files: NESTED,
+        words: "build /a.collection --workers 0",
+        failing_call: 0,
+        failing_put: 0,
+        most: 4096,
+        status: 0,
+        text: "1: built 2\n",
+        built: &[("/build/default/a_object_0.goc", "object\n"), PLACED],
     },
 ];

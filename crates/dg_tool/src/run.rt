@@ -1,11 +1,12 @@
 //! The top call.
-ghost use Rattle.std.specs.Prelude.{◌≡◌, ◌≤◌, ◌⊎◌, ◌+◌, map, string_bytes, IfOk, IfSome, None, Ok};
+ghost use Rattle.std.specs.Prelude.{◌≡◌, ◌≤◌, ◌⊎◌, ◌+◌, ℕ, [], map, string_bytes, IfOk, IfSome, Option, None, Ok};
 ghost use Rattle.dg_files.specs.Outcome.{Rose, StaysSound};
+ghost use Rattle.dg_files.specs.Tree.{Tree};
 ghost use Rattle.dg_kinds_coll.specs.Defold.{defold_tables};
 ghost use Rattle.dg_tool.specs.Halts.{status_of, halt_lines};
-ghost use Rattle.dg_tool.specs.Out.{out_of, out_of_task, usage, usage_lines};
+ghost use Rattle.dg_tool.specs.Out.{out_of, out_of_task, usage_lines};
 ghost use Rattle.dg_tool.specs.Seen.{deeds_of};
-ghost use Rattle.dg_tool.specs.Statement.{AreDone, EndsAs, HasCauses, IsComplete, IsDeskOfTask, IsDeskOfWords, IsPut, WritesNothing, made_by_task, made_by_words};
+ghost use Rattle.dg_tool.specs.Statement.{AreDone, EndsAs, HasCauses, IsComplete, IsDeskOfTask, IsDeskOfWords, IsPut, NeedsNoFiles, WritesNothing, made_by_task, made_by_words, needs_no_files};
 ghost use Rattle.dg_words.specs.Paths.{usage as no_task};
 ghost use Rattle.dg_words.specs.Ranges.{IsInRange};
 ghost use Rattle.dg_words.specs.Tasks.{task_in};
@@ -17,7 +18,7 @@ use crate::status::Status;
 use crate::text::{self, Lines};
 use dg_base::{Refusal, Steps};
 use dg_deeds::put_lines;
-use dg_files::{Files, Sink};
+use dg_files::{Files, MemFiles, Sink};
 use dg_play::ScriptDesk;
 use dg_words::laws::numbers_are_in_range;
 use dg_words::{Task, read_words};
@@ -67,13 +68,22 @@ pub fn run_alone<F: Files, S: Sink, L: Ledger>(
         IfSome (F.tree files.old) (λ t. steps.new ≡ steps.old + made_by_words defold_tables t (task_in (map string_bytes words.now))) }
     ensures no_desk { ¬ (result.status ≡ Status.Done) → result.desk ≡ None }
 
-    // Over any files, also those that tell nothing: the words alone decide on the status of usage, before
-    // a file is read. A task that writes nothing leaves the tree, and where a call of the files failed it has printed
-    // nothing. What never fails goes on so.
-    ensures usage { task_in (map string_bytes words.now) ≡ no_task →
-        EndsAs usage result.status (F.tree files.old) (F.tree files.new) (S.bytes out.old) (S.bytes out.new) }
+    // Over any files, also those that tell nothing: words that say no task, and a task that needs no files, leave them
+    // alone and do what they do over none.
+    ensures untouched { NeedsNoFiles (task_in (map string_bytes words.now)) → files.new ≡ files.old }
+    ensures ends_over_none { NeedsNoFiles (task_in (map string_bytes words.now)) →
+        EndsAs (out_of defold_tables [] (map string_bytes words.now)) result.status (F.tree files.old) (F.tree files.new) (S.bytes out.old) (S.bytes out.new) }
+    ensures complete_over_none { NeedsNoFiles (task_in (map string_bytes words.now)) →
+        IsComplete (out_of defold_tables [] (map string_bytes words.now)) result.status
+        (F.faults files.old) (F.faults files.new) (S.faults out.old) (S.faults out.new) }
+    ensures desk_over_none { NeedsNoFiles (task_in (map string_bytes words.now)) → result.status ≡ Status.Done →
+        IsDeskOfWords defold_tables [] (task_in (map string_bytes words.now)) result.desk }
+    ensures work_over_none { NeedsNoFiles (task_in (map string_bytes words.now)) → result.status ≡ Status.Done →
+        steps.new ≡ steps.old + made_by_words defold_tables [] (task_in (map string_bytes words.now)) }
+
+    // Over any files: the words alone decide on the status of usage. A task that writes nothing leaves the tree, and
+    // where a call of the files failed it has printed nothing. What never fails goes on so.
     ensures usage_alone { result.status ≡ Status.Usage → task_in (map string_bytes words.now) ≡ no_task }
-    ensures untouched { task_in (map string_bytes words.now) ≡ no_task → files.new ≡ files.old }
     ensures tree { WritesNothing (task_in (map string_bytes words.now)) → F.tree files.new ≡ F.tree files.old }
     ensures files_failed { WritesNothing (task_in (map string_bytes words.now)) → result.status ≡ Status.FileFault → S.bytes out.new ≡ S.bytes out.old }
     ensures files_sound { StaysSound F.is_sound F.faults files.old files.new }
@@ -93,8 +103,84 @@ pub fn run_alone<F: Files, S: Sink, L: Ledger>(
     }
 }
 
-// Does a task.
+// Does a task; over no files at all where it needs none.
 fn run_task<F: Files, S: Sink, L: Ledger>(
+    alloc: Global,
+    task: Task,
+    files: &mut F,
+    out: &mut S,
+    steps: &mut Steps<L>,
+) -> Ended
+    requires { IsInRange task }
+    ensures ends { IfSome (F.tree files.old)
+        (λ t. EndsAs (out_of_task defold_tables t task) result.status (F.tree files.old) (F.tree files.new) (S.bytes out.old) (S.bytes out.new)) }
+    ensures causes { HasCauses result.status (F.faults files.old) (F.faults files.new) (S.faults out.old) (S.faults out.new) }
+    ensures complete { IfSome (F.tree files.old)
+        (λ t. IsComplete (out_of_task defold_tables t task) result.status (F.faults files.old) (F.faults files.new) (S.faults out.old) (S.faults out.new)) }
+    ensures desk { result.status ≡ Status.Done → IfSome (F.tree files.old) (λ t. IsDeskOfTask defold_tables t task result.desk) }
+    ensures work { result.status ≡ Status.Done → IfSome (F.tree files.old) (λ t. steps.new ≡ steps.old + made_by_task defold_tables t task) }
+    ensures no_desk { ¬ (result.status ≡ Status.Done) → result.desk ≡ None }
+    ensures not_usage { ¬ (result.status ≡ Status.Usage) }
+    ensures untouched { NeedsNoFiles (Ok task) → files.new ≡ files.old }
+    ensures ends_over_none { NeedsNoFiles (Ok task) →
+        EndsAs (out_of_task defold_tables [] task) result.status (F.tree files.old) (F.tree files.new) (S.bytes out.old) (S.bytes out.new) }
+    ensures complete_over_none { NeedsNoFiles (Ok task) →
+        IsComplete (out_of_task defold_tables [] task) result.status (F.faults files.old) (F.faults files.new) (S.faults out.old) (S.faults out.new) }
+    ensures desk_over_none { NeedsNoFiles (Ok task) → result.status ≡ Status.Done → IsDeskOfTask defold_tables [] task result.desk }
+    ensures work_over_none { NeedsNoFiles (Ok task) → result.status ≡ Status.Done → steps.new ≡ steps.old + made_by_task defold_tables [] task }
+    ensures tree { WritesNothing (Ok task) → F.tree files.new ≡ F.tree files.old }
+    ensures files_failed { WritesNothing (Ok task) → result.status ≡ Status.FileFault → S.bytes out.new ≡ S.bytes out.old }
+    ensures files_sound { StaysSound F.is_sound F.faults files.old files.new }
+    ensures out_sound { StaysSound S.is_sound S.faults out.old out.new }
+{
+    if needs_no_files(&task) {
+        run_over_none(alloc, task, out, steps)
+    } else {
+        run_over(alloc, task, files, out, steps)
+    }
+}
+
+fn needs_no_files(task: &Task) -> bool
+    ensures { result ≡ needs_no_files task.now }
+{
+    match task {
+        Task::Gen { .. } => true,
+        Task::Run { .. } | Task::Check | Task::Build { .. } | Task::Format { .. } => false,
+    }
+}
+
+// Does a task that needs no files. What is said of a tree is so of any.
+fn run_over_none<S: Sink, L: Ledger>(
+    alloc: Global,
+    task: Task,
+    out: &mut S,
+    steps: &mut Steps<L>,
+) -> Ended
+    requires range { IsInRange task }
+    requires none { NeedsNoFiles (Ok task) }
+    ensures ends { (tree : Option Tree) → EndsAs (out_of_task defold_tables [] task) result.status tree tree (S.bytes out.old) (S.bytes out.new) }
+    ensures causes { (n : ℕ) → HasCauses result.status n n (S.faults out.old) (S.faults out.new) }
+    ensures complete { ¬ Rose (S.faults out.old) (S.faults out.new) →
+        (result.status ≡ (out_of_task defold_tables [] task).status) ⊎ (result.status ≡ Status.NoMemory) }
+    ensures desk { result.status ≡ Status.Done → IsDeskOfTask defold_tables [] task result.desk }
+    ensures work { result.status ≡ Status.Done → steps.new ≡ steps.old + made_by_task defold_tables [] task }
+    ensures no_desk { ¬ (result.status ≡ Status.Done) → result.desk ≡ None }
+    ensures not_usage { ¬ (result.status ≡ Status.Usage) }
+    ensures no_fault { ¬ (result.status ≡ Status.FileFault) }
+    ensures out_sound { StaysSound S.is_sound S.faults out.old out.new }
+{
+    let mut none = no_files(alloc);
+    run_over(alloc, task, &mut none, out, steps)
+}
+
+fn no_files(alloc: Global) -> MemFiles
+    ensures { result ≡ record { tree = []; calls = record { fails = []; made = 0; faults = 0 } } }
+{
+    MemFiles::new(alloc, Vec::new(alloc), Vec::new(alloc))
+}
+
+// Does a task over the files.
+fn run_over<F: Files, S: Sink, L: Ledger>(
     alloc: Global,
     task: Task,
     files: &mut F,

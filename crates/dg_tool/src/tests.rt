@@ -1,10 +1,10 @@
+//! Scripts and files, and what the whole tool ends with and prints.
 ghost use Rattle.std.specs.Prelude.{◌≡◌, ◌<◌};
 
 use crate::cases::{
-    EDITED, FIRST, FIRST_LINES, FORMATTED, GRAPHS, MADE, NAMES, OVERRIDES, REFUSED, SPELLED, TEN,
-    WORDS_ENDED, WORKED, Worked,
+    EDITED, FIRST, FIRST_LINES, FORMATTED, GRAPHS, NAMES, OVERRIDES, REFUSED, SPELLED, TEN,
+    WORDS_ENDED,
 };
-use crate::projects::{BUILDS, Build, Case, FAILING, PROJECTS};
 use crate::{Ended, run_alone};
 use dg_base::Steps;
 use dg_files::{MemFiles, MemSink, are_distinct};
@@ -14,20 +14,20 @@ use std::marker::Brand;
 use std::sync::ledger::{Blank, Ledger};
 use std::test::Fail;
 
-const WORDS: &str = "run /e.txt --workers 0";
+pub(crate) const WORDS: &str = "run /e.txt --workers 0";
 
 /// What a run has outside of it: a file, which is the script at `/e.txt` mostly, the numbers of the read and of the put that
 /// fail (0 for none), and how many bytes a put takes.
 #[derive(Drop)]
-struct Outside<'a> {
-    path: &'a str,
-    script: &'a [u8],
-    failing_read: u64,
-    failing_put: u64,
-    most: usize,
+pub(crate) struct Outside<'a> {
+    pub(crate) path: &'a str,
+    pub(crate) script: &'a [u8],
+    pub(crate) failing_read: u64,
+    pub(crate) failing_put: u64,
+    pub(crate) most: usize,
 }
 
-fn sound(script: &str) -> Outside<'_> {
+pub(crate) fn sound(script: &str) -> Outside<'_> {
     Outside {
         path: "/e.txt",
         script: script.as_bytes(),
@@ -37,7 +37,7 @@ fn sound(script: &str) -> Outside<'_> {
     }
 }
 
-fn words_of(alloc: Global, text: &str) -> Result<Vec<String>, AllocError> {
+pub(crate) fn words_of(alloc: Global, text: &str) -> Result<Vec<String>, AllocError> {
     let mut words = Vec::new(alloc);
     for word in text.split(' ') {
         words.push(String::from_str(alloc, word)?)?;
@@ -45,14 +45,23 @@ fn words_of(alloc: Global, text: &str) -> Result<Vec<String>, AllocError> {
     Ok(words)
 }
 
-fn files_of(alloc: Global, outside: &Outside<'_>) -> Result<MemFiles, AllocError> {
+/// Files at these paths, of which one call fails (0 for none).
+pub(crate) fn project_of(
+    alloc: Global,
+    files: &[(&str, &[u8])],
+    failing: u64,
+) -> Result<MemFiles, AllocError> {
     let mut tree = Vec::new(alloc);
-    let script = Vec::from_slice(alloc, outside.script)?;
-    tree.push((String::from_str(alloc, outside.path)?, script))?;
+    for (path, bytes) in files {
+        tree.push((
+            String::from_str(alloc, path)?,
+            Vec::from_slice(alloc, bytes)?,
+        ))?;
+    }
     if !are_distinct(&tree) {
         return Err(AllocError);
     }
-    Ok(MemFiles::new(alloc, tree, vec![in alloc; outside.failing_read]?))
+    Ok(MemFiles::new(alloc, tree, vec![in alloc; failing]?))
 }
 
 fn ended<L: Ledger>(
@@ -70,14 +79,27 @@ fn ended<L: Ledger>(
     run_alone(alloc, words, files, out, &mut steps)
 }
 
-fn played(alloc: Global, words: &[String], files: &mut MemFiles, out: &mut MemSink) -> Ended {
+pub(crate) fn played(
+    alloc: Global,
+    words: &[String],
+    files: &mut MemFiles,
+    out: &mut MemSink,
+) -> Ended {
     ended::<Brand>(alloc, words, files, out, Blank::new(1))
 }
 
 /// How a run ended, and what it printed.
-fn run(alloc: Global, words: &str, outside: &Outside<'_>) -> Result<(Ended, Vec<u8>), AllocError> {
+pub(crate) fn run(
+    alloc: Global,
+    words: &str,
+    outside: &Outside<'_>,
+) -> Result<(Ended, Vec<u8>), AllocError> {
     let words = words_of(alloc, words)?;
-    let mut files = files_of(alloc, outside)?;
+    let mut files = project_of(
+        alloc,
+        &[(outside.path, outside.script)],
+        outside.failing_read,
+    )?;
     let fail = vec![in alloc; outside.failing_put]?;
     let mut out = MemSink::new(alloc, fail, outside.most.max(1));
     let ended = played(alloc, words.as_slice(), &mut files, &mut out);
@@ -86,7 +108,7 @@ fn run(alloc: Global, words: &str, outside: &Outside<'_>) -> Result<(Ended, Vec<
 
 /// Whether a run ends with the status, having printed just the text. A desk is there just where a script was played to
 /// its end.
-fn ends(
+pub(crate) fn ends(
     alloc: Global,
     words: &str,
     outside: &Outside<'_>,
@@ -142,123 +164,6 @@ fn a_sum_out_of_range_is_a_fault(rt: HostRuntime) -> Result<(), Fail> {
     Ok(())
 }
 
-/// Files at these paths, of which one call fails (0 for none).
-fn project_of(
-    alloc: Global,
-    files: &[(&str, &[u8])],
-    failing: u64,
-) -> Result<MemFiles, AllocError> {
-    let mut tree = Vec::new(alloc);
-    for (path, bytes) in files {
-        tree.push((
-            String::from_str(alloc, path)?,
-            Vec::from_slice(alloc, bytes)?,
-        ))?;
-    }
-    if !are_distinct(&tree) {
-        return Err(AllocError);
-    }
-    Ok(MemFiles::new(alloc, tree, vec![in alloc; failing]?))
-}
-
-/// Whether the files at these paths have these bytes, or are absent where there are none.
-fn holds(files: &MemFiles, built: &[(&str, &str)]) -> bool {
-    for (path, text) in built {
-        let as_due = match files.get(path) {
-            Some(found) => found == text.as_bytes(),
-            None => text.is_empty(),
-        };
-        if !as_due {
-            return false;
-        }
-    }
-    true
-}
-
-/// Whether a build ends with the status, having printed and written what is due, where a call of the files (0 for none)
-/// and a put fail.
-fn builds(alloc: Global, case: &Build<'_>) -> Result<bool, AllocError> {
-    let words = words_of(alloc, case.words)?;
-    let mut files = project_of(alloc, case.files, case.failing_call)?;
-    let fail = vec![in alloc; case.failing_put]?;
-    let mut out = MemSink::new(alloc, fail, case.most.max(1));
-    let ended = played(alloc, words.as_slice(), &mut files, &mut out);
-    Ok(
-        ended.status.code() == case.status
-            && out.as_slice() == case.text.as_bytes()
-            && holds(&files, case.built),
-    )
-}
-
-#[test]
-fn builds_are_written_before_their_lines(rt: HostRuntime) -> Result<(), Fail> {
-    for case in BUILDS.iter() {
-        assert!(rt; builds(rt.alloc(), case)?, "{} {}", case.words, case.text);
-    }
-    Ok(())
-}
-
-/// Whether a run over a project ends with the status, having printed just the text.
-fn prints(alloc: Global, case: &Case<'_>, failing: u64) -> Result<bool, AllocError> {
-    let words = words_of(alloc, case.words)?;
-    let mut files = project_of(alloc, case.files, failing)?;
-    let mut out = MemSink::new(alloc, Vec::new(alloc), 4096);
-    let ended = played(alloc, words.as_slice(), &mut files, &mut out);
-    Ok(ended.status.code() == case.status && out.as_slice() == case.text.as_bytes())
-}
-
-#[test]
-fn projects_are_loaded_and_checked(rt: HostRuntime) -> Result<(), Fail> {
-    for case in PROJECTS.iter() {
-        assert!(rt; prints(rt.alloc(), case, 0)?, "{}", case.text);
-    }
-    // The script, the list, the two files: where one of these calls fails, nothing is printed.
-    for call in 1..5 {
-        assert!(rt; prints(rt.alloc(), &FAILING, call)?, "{call}");
-    }
-    Ok(())
-}
-
-/// Whether the project of so many scripts of so many blanks each, and one blank more in the last one where it is to have
-/// that, is checked so.
-fn blanks_are(
-    alloc: Global,
-    count: usize,
-    size: usize,
-    more: usize,
-    text: &str,
-) -> Result<bool, AllocError> {
-    let mut tree = Vec::new(alloc);
-    for number in 0..count {
-        let path = format!(in alloc; "/{number}.script")?;
-        let bytes = if number == 0 { more } else { size };
-        tree.push((path, vec![in alloc; b' '; bytes]?))?;
-    }
-    if !are_distinct(&tree) {
-        return Err(AllocError);
-    }
-    let mut files = MemFiles::new(alloc, tree, Vec::new(alloc));
-    let mut out = MemSink::new(alloc, Vec::new(alloc), 4096);
-    let words = words_of(alloc, "check")?;
-    played(alloc, words.as_slice(), &mut files, &mut out);
-    Ok(out.as_slice() == text.as_bytes())
-}
-
-#[test]
-fn a_project_has_at_most_4096_files_of_64_mib(rt: HostRuntime) -> Result<(), Fail> {
-    let alloc = rt.alloc();
-    for (count, size, more, text) in [
-        (4096, 0, 0, "nodes 4096 arcs 0 bad 0\n"),
-        (4097, 0, 0, "error: too large files\n"),
-        (64, 1_048_576, 1_048_576, "nodes 64 arcs 0 bad 0\n"),
-        (65, 1_048_576, 1, "error: too large total\n"),
-        (2, 0, 1_048_577, "error: too large file\n"),
-    ] {
-        assert!(rt; blanks_are(alloc, count, size, more, text)?, "{count}");
-    }
-    Ok(())
-}
-
 #[test]
 fn the_words_decide_first(rt: HostRuntime) -> Result<(), Fail> {
     let alloc = rt.alloc();
@@ -267,133 +172,6 @@ fn the_words_decide_first(rt: HostRuntime) -> Result<(), Fail> {
             ends(alloc, words, &sound("make"), *status, text)?,
             "{words}"
         );
-    }
-    Ok(())
-}
-
-#[test]
-fn a_project_is_made_and_played_without_a_call_of_the_files(rt: HostRuntime) -> Result<(), Fail> {
-    let alloc = rt.alloc();
-    for (words, failing_put, status, text) in &MADE {
-        for failing_read in [0, 1] {
-            let outside = Outside {
-                path: "/g/c0.collection",
-                script: b"name: \"of another\"",
-                failing_read,
-                failing_put: *failing_put,
-                most: 4096,
-            };
-            assert!(rt;
-                ends(alloc, words, &outside, *status, text)?,
-                "{words} {failing_read}"
-            );
-        }
-    }
-    Ok(())
-}
-
-/// The words that play the script with a cache of this size, and tell the work.
-fn telling(alloc: Global, cache: &str) -> Result<String, AllocError> {
-    let mut words = String::from_str(alloc, "run /e.txt --workers 0 --stats --cache ")?;
-    words.push_str(cache)?;
-    Ok(words)
-}
-
-/// Whether a script prints its lines and its work, and without the flag the lines alone, for any number of workers.
-fn works(alloc: Global, row: &Worked) -> Result<bool, AllocError> {
-    let mut text = String::from_str(alloc, row.lines)?;
-    text.push_str(row.work)?;
-    let words = telling(alloc, row.cache)?;
-    let outside = sound(row.script);
-    Ok(
-        ends(alloc, words.as_str(), &outside, 0, text.as_str())?
-            && ends(alloc, "run e.txt --workers 3", &outside, 0, row.lines)?,
-    )
-}
-
-#[test]
-fn a_cache_changes_the_work_alone(rt: HostRuntime) -> Result<(), Fail> {
-    let alloc = rt.alloc();
-    for row in WORKED.iter() {
-        assert!(rt; works(alloc, row)?, "{}", row.cache);
-    }
-    Ok(())
-}
-
-/// Numbers that look random: a linear congruence, of which the upper bits are taken.
-#[derive(Drop)]
-struct Draws {
-    state: u64,
-}
-
-impl Draws {
-    fn below(&mut self, bound: u64) -> u64 {
-        self.state = self
-            .state
-            .wrapping_mul(6364136223846793005)
-            .wrapping_add(1442695040888963407);
-        (self.state >> 33).checked_rem(bound).unwrap_or(0)
-    }
-
-    fn pick<'a>(&mut self, words: &'a [&'a str]) -> &'a str {
-        let at = self.below(words.len() as u64) as usize;
-        words.get(at).copied().unwrap_or("undo\n")
-    }
-}
-
-const COMMANDS: [&str; 16] = [
-    "ask now s.total\n",
-    "ask now u.total\n",
-    "ask now t.total\n",
-    "ask p u.total\n",
-    "ask q t.total\n",
-    "pin p\n",
-    "pin q\n",
-    "drop p\n",
-    "set a.value 3\n",
-    "set b.value 0.5\n",
-    "connect a.value s.terms\n",
-    "disconnect s.total t.terms\n",
-    "connect t.total s.terms\n",
-    "evict 1\n",
-    "undo\n",
-    "redo\n",
-];
-
-/// A script of commands that were drawn, over two numbers and three sums.
-fn drawn(alloc: Global, seed: u64) -> Result<String, AllocError> {
-    let mut draws = Draws { state: seed };
-    let mut script = String::from_str(
-        alloc,
-        "make Num a\nmake Num b\nmake Sum s\nmake Sum t\nmake Sum u\nconnect b.value s.terms\nconnect s.total t.terms\nconnect t.total u.terms\n",
-    )?;
-    for _ in 0..60 {
-        script.push_str(draws.pick(&COMMANDS))?;
-    }
-    Ok(script)
-}
-
-/// Whether a script prints the same lines for every cache.
-fn is_same_for_every_cache(alloc: Global, script: &str) -> Result<bool, AllocError> {
-    let outside = sound(script);
-    let (_, plain) = run(alloc, WORDS, &outside)?;
-    for cache in ["1", "2", "5", "1000"] {
-        let words = telling(alloc, cache)?;
-        let (_, told) = run(alloc, words.as_str(), &outside)?;
-        match told.as_slice().strip_prefix(plain.as_slice()) {
-            Some(last) if last.starts_with(b"work ") => {}
-            _ => return Ok(false),
-        }
-    }
-    Ok(true)
-}
-
-#[test]
-fn drawn_scripts_print_the_same_lines_for_every_cache(rt: HostRuntime) -> Result<(), Fail> {
-    let alloc = rt.alloc();
-    for seed in 0..40 {
-        let script = drawn(alloc, seed)?;
-        assert!(rt; is_same_for_every_cache(alloc, script.as_str())?, "{seed}");
     }
     Ok(())
 }

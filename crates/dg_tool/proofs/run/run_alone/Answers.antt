@@ -1,13 +1,11 @@
-use Rattle.std.proofs.Common.{◌≡◌, map, string_bytes, Result, Ok, ◌+◌, sym, ◌∙◌, subst}
+use Rattle.std.proofs.Common.{◌≡◌, [], map, string_bytes, Result, Ok, ◌+◌, sym, subst}
 use Rattle.std.proofs.lemmas.Option.{IfSome_then}
 use Rattle.dg_kinds_coll.specs.Defold.{defold_tables}
 use Rattle.dg_words.specs.declared.task.Task.{Task}
 use Rattle.dg_words.specs.declared.task.Usage.{Usage}
-use Rattle.dg_words.specs.Paths.{usage as no_task}
 use Rattle.dg_words.specs.Tasks.{task_in}
 use Rattle.dg_tool.specs.Out.{out_of_words}
-use Rattle.dg_tool.specs.Statement.{EndsAs, IsComplete, IsDeskOfWords, WritesNothing, made_by_words}
-use Rattle.dg_tool.proofs.Endings.{isnt_no_task}
+use Rattle.dg_tool.specs.Statement.{EndsAs, IsComplete, IsDeskOfWords, NeedsNoFiles, WritesNothing, made_by_words}
 use Rattle.dg_tool.proofs.run.run_alone.Goals as goal
 
 pub run_task-requires : goal.run_task-requires
@@ -20,7 +18,6 @@ returns-in-Ok g c =
     let tree_now = g.F.Files.tree c.run_task.new.files in
     let before = g.S.Sink.bytes c.args.out.now in let now = g.S.Sink.bytes c.run_task.new.out in
     let ended = c.run_task.result.status in
-    let a_task : (w : Result Task Usage) → Ok c.in-Ok.task ≡ w → w ≡ no_task → ⊥ = λ w e none. isnt_no_task c.in-Ok.task (e ∙ none) in
     record {
       ends = IfSome_then tree c.run_task.ensures.ends (λ t ends. subst (λ (w : Result Task Usage). EndsAs (out_of_words defold_tables t w) ended tree tree_now before now) is ends);
       causes = c.run_task.ensures.causes;
@@ -30,9 +27,17 @@ returns-in-Ok g c =
       desk = λ done. IfSome_then tree (c.run_task.ensures.desk done) (λ t desk. subst (λ (w : Result Task Usage). IsDeskOfWords defold_tables t w c.run_task.result.desk) is desk);
       work = λ done. IfSome_then tree (c.run_task.ensures.work done) (λ t work. subst (λ (w : Result Task Usage). c.run_task.new.steps ≡ c.args.steps.now + made_by_words defold_tables t w) is work);
       no_desk = c.run_task.ensures.no_desk;
-      usage = λ none. absurd (a_task (task_in (map string_bytes c.args.words.now)) is none);
+      untouched = λ none. c.run_task.ensures.untouched (subst NeedsNoFiles (sym is) none);
+      ends_over_none = λ none. subst (λ (w : Result Task Usage). EndsAs (out_of_words defold_tables [] w) ended tree tree_now before now) is
+          (c.run_task.ensures.ends_over_none (subst NeedsNoFiles (sym is) none));
+      complete_over_none = λ none.
+          subst (λ (w : Result Task Usage). IsComplete (out_of_words defold_tables [] w) ended (g.F.Files.faults c.args.files.now) (g.F.Files.faults c.run_task.new.files)
+          (g.S.Sink.faults c.args.out.now) (g.S.Sink.faults c.run_task.new.out)) is (c.run_task.ensures.complete_over_none (subst NeedsNoFiles (sym is) none));
+      desk_over_none = λ none done. subst (λ (w : Result Task Usage). IsDeskOfWords defold_tables [] w c.run_task.result.desk) is
+          (c.run_task.ensures.desk_over_none (subst NeedsNoFiles (sym is) none) done);
+      work_over_none = λ none done. subst (λ (w : Result Task Usage). c.run_task.new.steps ≡ c.args.steps.now + made_by_words defold_tables [] w) is
+          (c.run_task.ensures.work_over_none (subst NeedsNoFiles (sym is) none) done);
       usage_alone = λ used. absurd (c.run_task.ensures.not_usage used);
-      untouched = λ none. absurd (a_task (task_in (map string_bytes c.args.words.now)) is none);
       tree = λ nothing. c.run_task.ensures.tree (subst WritesNothing (sym is) nothing);
       files_failed = λ nothing. c.run_task.ensures.files_failed (subst WritesNothing (sym is) nothing);
       files_sound = c.run_task.ensures.files_sound;
