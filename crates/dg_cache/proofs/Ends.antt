@@ -1,14 +1,15 @@
 -- Endpoints that stand once in a list, and their filters.
-use Rattle.std.proofs.Common.{◌≡◌, ℕ, zero, suc, ◌+◌, ◌<◌, ◌≤◌, ◌⊎◌, Bool, true, false, not, cond, ◌&&◌, ◌||◌, List, [], ◌∷◌, ◌++◌, filter, length, IsTrue, refl, sym, ap, ◌∙◌, subst, inl, inr, arith, true≢false}
-use Rattle.std.proofs.lemmas.Bool.{and_parts, and_from, or_parts, or_from, or_left, not-true, not_from_false, cases_Bool, false_from_ne_true}
+use Rattle.std.proofs.Common.{◌≡◌, ℕ, suc, ◌+◌, ◌<◌, ◌≤◌, Bool, true, false, not, cond, ◌&&◌, ◌||◌, List, [], ◌∷◌, filter, length, get_or, drop, IsTrue, refl, sym, ap, ◌∙◌, arith, true≢false}
+use Rattle.std.proofs.lemmas.Bool.{and_parts, and_from, or_parts, or_from, not-true, not_from_false}
+use Rattle.std.proofs.lemmas.List.{at_drop_all, at_drop_more}
 use Rattle.std.proofs.lemmas.List.Elements.{filter_agree}
 use Rattle.std.proofs.lemmas.List.Kept.{AllPairs-filter}
-use Rattle.std.specs.List.{list_any, list_all}
+use Rattle.std.specs.List.{list_all}
 use Rattle.dg_base.specs.declared.ids.Endpoint.{Endpoint}
 use Rattle.dg_base.specs.Same.{same_end}
-use Rattle.dg_base.specs.Order.{is_end_among, is_end_before, ends_rise, rise_by}
-use Rattle.dg_laws.proofs.Among.{same_answer, same-swap, among-filter}
-use Rattle.dg_laws.proofs.Orders.{Ranks, AllPairs-from_rise, rise-from_AllPairs}
+use Rattle.dg_base.specs.Order.{is_end_among, is_end_before, ends_rise}
+use Rattle.dg_laws.proofs.Among.{same-swap, among-filter}
+use Rattle.dg_laws.proofs.Orders.{AllPairs-from_rise, rise-from_AllPairs}
 use Rattle.dg_laws.proofs.Ends.{same_end-is, same_end-itself, ends_tell, ends_rank}
 use Rattle.dg_cache.specs.Entries.{ends_once}
 
@@ -123,3 +124,27 @@ rise_once (e ∷ ends) h =
 pub rise_filter : (p : Endpoint → Bool) (ends : List Endpoint) → IsTrue (ends_rise ends) → IsTrue (ends_rise (filter p ends))
 rise_filter p ends h =
     rise-from_AllPairs is_end_before (filter p ends) (AllPairs-filter (λ a b. is_end_before a b ≡ true) p ends (AllPairs-from_rise is_end_before ends h))
+
+-- ---- outside some endpoints, one after the other
+
+pub neither : (a b : Bool) → (not a && not b) ≡ not (a || b)
+neither true b = refl
+neither false b = refl
+
+pub outside-one : (d : Endpoint) (ds ends : List Endpoint) → filter (λ e. not (is_end_among ds e)) (filter (outside_one d) ends) ≡ filter (λ e. not (is_end_among (d ∷ ds) e)) ends
+outside-one d ds ends =
+    filter_twice (λ e. not (is_end_among ds e)) (outside_one d) ends
+    ∙ filter_agree (λ e. outside_one d e && not (is_end_among ds e)) (λ e. not (is_end_among (d ∷ ds) e))
+    (λ e. ap (λ b. not b && not (is_end_among ds e)) (same-swap ends_tell d e) ∙ neither (same_end e d) (is_end_among ds e)) ends
+
+pub outside-none : (ends : List Endpoint) → filter (λ e. not (is_end_among [] e)) ends ≡ ends
+outside-none [] = refl
+outside-none (e ∷ ends) = ap (λ (z : List Endpoint). e ∷ z) (outside-none ends)
+
+pub outside-next : (gone : List Endpoint) (i : ℕ) (d : Endpoint) (ends : List Endpoint) → i < length gone →
+    filter (λ e. not (is_end_among (drop (i + 1) gone) e)) (filter (outside_one (get_or gone i d)) ends) ≡ filter (λ e. not (is_end_among (drop i gone) e)) ends
+outside-next gone i d ends inside =
+    outside-one (get_or gone i d) (drop (i + 1) gone) ends ∙ sym (at_drop_more (λ ds. filter (λ e. not (is_end_among ds e)) ends) gone i d inside)
+
+pub outside-end : (gone : List Endpoint) (i : ℕ) (ends : List Endpoint) → length gone ≤ i → filter (λ e. not (is_end_among (drop i gone) e)) ends ≡ ends
+outside-end gone i ends all = at_drop_all (λ ds. filter (λ e. not (is_end_among ds e)) ends) gone i all ∙ outside-none ends

@@ -1,7 +1,7 @@
 -- What a cache's layout shows, and what changes of it make of the entries.
-use Rattle.std.proofs.Common.{◌≡◌, ℕ, zero, suc, ◌+◌, ◌-◌, ◌<◌, ◌≤◌, ◌⊎◌, Bool, true, false, not, cond, ◌&&◌, ◌||◌, List, [], ◌∷◌, ◌++◌, Option, Some, None, filter, map, take, length, slice_get, nat_lt, IsTrue, ltb-true, ltb-false, refl, sym, ap, ◌∙◌, subst, inl, inr, arith, true≢false}
-use Rattle.std.proofs.lemmas.Bool.{cases_Bool, or_left, or_right, false_from_ne_true}
-use Rattle.std.proofs.lemmas.List.{length-map, length-take, take-take}
+use Rattle.std.proofs.Common.{◌≡◌, ℕ, zero, suc, ◌+◌, ◌-◌, ◌<◌, ◌≤◌, Bool, true, false, not, cond, ◌&&◌, ◌||◌, List, [], ◌∷◌, Option, Some, None, filter, take, length, slice_get, nat_lt, IsTrue, ltb-true, ltb-false, refl, sym, ap, ◌∙◌, subst, arith, true≢false}
+use Rattle.std.proofs.lemmas.Bool.{or_left, or_right, false_from_ne_true}
+use Rattle.std.proofs.lemmas.List.{length-map, length-take, take-map, take-take}
 use Rattle.dg_base.specs.declared.ids.Endpoint.{Endpoint}
 use Rattle.dg_base.specs.Same.{same_end}
 use Rattle.dg_base.specs.Order.{is_end_among, ends_rise, ordered}
@@ -9,12 +9,12 @@ use Rattle.dg_laws.proofs.Orders.{ordered-rise, ordered-among}
 use Rattle.dg_laws.proofs.Among.{among-filter}
 use Rattle.dg_laws.proofs.Ends.{same_end-is, same_end-itself, ends_tell, ends_rank}
 use Rattle.dg_cache.specs.declared.entry.Entry.{Entry}
-use Rattle.dg_cache.specs.Entries.{ends_of, ends_once, entry_of, others, without, to_front, put_entry, entries_at, in_order}
+use Rattle.dg_cache.specs.Entries.{ends_of, ends_once, entry_of, others, to_front, put_entry, entries_at, in_order}
 use Rattle.dg_cache.specs.Caches.{Cached, IsCached, evicted, holding}
 use Rattle.dg_cache.specs.Layout.{IsLaidOut, leaving, ends_leaving, last_end, dropped_for}
-use Rattle.dg_cache.proofs.Ends.{outside_one, once_filter, once_front, once_head, once_tail, others_absent, others_all, others_fewer, rise_once}
-use Rattle.dg_cache.proofs.Listing.{kept, ends-kept, at_agree, entry-at_all, own_entries, ends-at, entry_front, ends_front, others_same, front_absent}
-use Rattle.dg_cache.proofs.Ordering.{ends-in_order, entry-in_order, in_order-is, in_order-agree, in_order-kept, in_order-front, rise-in_order}
+use Rattle.dg_cache.proofs.Ends.{outside_one, once_filter, once_front, once_head, once_tail, others_fewer, rise_once}
+use Rattle.dg_cache.proofs.Listing.{kept, ends-kept, at_agree, entry-at_all, own_entries, ends-at, ends_front, others_same, front_absent}
+use Rattle.dg_cache.proofs.Ordering.{ends-in_order, entry-in_order, in_order-is, in_order-agree, in_order-kept, in_order-front}
 
 pub laid_out-rise : {c : ℕ} {ends : List Endpoint} {values : List Entry} → IsLaidOut c ends values → IsTrue (ends_rise (ends_of values))
 laid_out-rise {c} {ends} {values} l = ap ends_rise l.same ∙ ordered-rise ends_rank ends
@@ -148,6 +148,9 @@ held-among {d = d} h e =
     let s = h.shown in
     ap (λ (z : List Entry). is_end_among (ends_of z) e) s.ordered ∙ ap (λ (z : List Endpoint). is_end_among z e) (ends-in_order d.entries s.once) ∙ ordered-among ends_rank (ends_of d.entries) e
 
+pub held-placed : {c : ℕ} {ends : List Endpoint} {values : List Entry} {d : Cached} → IsHeld c ends values d → (e : Endpoint) → is_end_among ends e ≡ is_end_among (ends_of d.entries) e
+held-placed h e = ap (λ (z : List Endpoint). is_end_among z e) h.shown.recent
+
 pub held-kept : {c : ℕ} {ends : List Endpoint} {values : List Entry} {d : Cached} (p : Endpoint → Bool) → IsHeld c ends values d →
     IsHeld c (filter p ends) (kept p values) (holding d (kept p d.entries))
 held-kept p h = record { capacity = h.capacity; shown = kept_shown p h.shown }
@@ -159,9 +162,17 @@ held-front e h there = record { capacity = h.capacity; shown = front_shown e h.s
 pub held-length : {c : ℕ} {ends : List Endpoint} {values : List Entry} {d : Cached} → IsHeld c ends values d → length ends ≡ length d.entries
 held-length {d = d} h = let s = h.shown in ap length s.recent ∙ length-map d.entries (λ (x : Entry). x.at)
 
-pub held-fewer : {c : ℕ} {ends : List Endpoint} {values : List Entry} {d : Cached} (e : Endpoint) → IsHeld c ends values d → is_end_among (ends_of d.entries) e ≡ true →
-    length (filter (outside_one e) ends) < length ends
-held-fewer {ends = ends} e h there = let s = h.shown in others_fewer e ends (ap (λ (z : List Endpoint). is_end_among z e) s.recent ∙ there)
+pub held-once : {c : ℕ} {ends : List Endpoint} {values : List Entry} → IsLaidOut c ends values → IsTrue (ends_once (ends_of values))
+held-once {c} {ends} {values} l = rise_once (ends_of values) (laid_out-rise l)
+
+-- an endpoint goes to the front, if it is there
+pub held-touched : {c : ℕ} {ends : List Endpoint} {values : List Entry} {d : Cached} (e : Endpoint) → IsHeld c ends values d →
+    IsHeld c (cond (is_end_among ends e) (e ∷ filter (outside_one e) ends) ends) values (holding d (to_front e d.entries))
+held-touched {c} {ends} {values} {d} e h = by_test (is_end_among ends e) (sym (held-placed h e))
+  where
+    by_test : (b : Bool) → is_end_among (ends_of d.entries) e ≡ b → IsHeld c (cond b (e ∷ filter (outside_one e) ends) ends) values (holding d (to_front e d.entries))
+    by_test true there = held-front e h there
+    by_test false new = subst (λ (z : List Entry). IsHeld c ends values (holding d z)) (sym (front_absent e d.entries new)) h
 
 -- ---- the last one
 
@@ -286,9 +297,9 @@ room_for c x s = by_test (is_end_among (ends_of c.entries) x.at) (nat_lt (length
     by_test false false new test = by_last (last_end c.entries) refl new (ltb-false (length c.entries) c.capacity test)
 
 -- one is put, after the one that goes for it
-pub held-put : {c : ℕ} {ends : List Endpoint} {values : List Entry} {d : Cached} (x : Entry) (gone : Option Endpoint) → IsHeld c ends values d → gone ≡ dropped_for d x.at →
+held-put_over : {c : ℕ} {ends : List Endpoint} {values : List Entry} {d : Cached} (x : Entry) (gone : Option Endpoint) → IsHeld c ends values d → gone ≡ dropped_for d x.at →
     IsHeld c (x.at ∷ filter (outside_one x.at) (ends_leaving gone ends)) (in_order (x ∷ others x.at (leaving gone values))) (holding d (put_entry d.capacity x d.entries))
-held-put {c} {ends} {values} {d} x gone h is =
+held-put_over {c} {ends} {values} {d} x gone h is =
     let r : IsRoom d.capacity x d.entries gone = subst (IsRoom d.capacity x d.entries) (sym is) (room_for d x (held-cached h)) in
     record {
       capacity = h.capacity;
@@ -296,3 +307,18 @@ held-put {c} {ends} {values} {d} x gone h is =
           subst (IsShown d.capacity (x.at ∷ filter (outside_one x.at) (ends_leaving gone ends)) (in_order (x ∷ others x.at (leaving gone values)))) r.is
           (put_shown x (leaving_shown gone h.shown) r.room);
     }
+
+ends-put : (capacity : ℕ) (x : Entry) (es : List Entry) → ends_of (put_entry capacity x es) ≡ take capacity (x.at ∷ filter (outside_one x.at) (ends_of es))
+ends-put capacity x es =
+    sym (take-map (λ (y : Entry). y.at) capacity (x ∷ others x.at es)) ∙ ap (λ (z : List Endpoint). take capacity (x.at ∷ z)) (ends-kept (outside_one x.at) es)
+
+-- one is put: the endpoints are cut to the capacity, and of the entries the one goes that gets no place
+pub held-put : {c : ℕ} {ends : List Endpoint} {values : List Entry} {d : Cached} (x : Entry) (gone : Option Endpoint) → IsHeld c ends values d → gone ≡ dropped_for d x.at →
+    IsHeld c (take c (x.at ∷ filter (outside_one x.at) ends)) (in_order (x ∷ others x.at (leaving gone values))) (holding d (put_entry d.capacity x d.entries))
+held-put {c} {ends} {values} {d} x gone h is =
+    let over = held-put_over x gone h is in
+    held-as over
+    (ap (λ (k : ℕ). take k (x.at ∷ filter (outside_one x.at) ends)) h.capacity
+    ∙ ap (λ (z : List Endpoint). take d.capacity (x.at ∷ filter (outside_one x.at) z)) h.shown.recent
+    ∙ sym (ends-put d.capacity x d.entries) ∙ sym over.shown.recent)
+    refl

@@ -1,16 +1,16 @@
 -- What is found of endpoints in filters of entries, and in the entries of a list of endpoints.
-use Rattle.std.proofs.Common.{◌≡◌, ℕ, zero, suc, ◌+◌, ◌<◌, ◌≤◌, ◌⊎◌, Bool, true, false, not, cond, ◌&&◌, ◌||◌, List, [], ◌∷◌, ◌++◌, filter, map, length, is_some, Some, IsTrue, refl, sym, ap, ◌∙◌, subst, inl, inr, arith, true≢false}
-use Rattle.std.proofs.lemmas.Bool.{and_parts, and_from, or_parts, or_from, or_left, or_right, not-true, not_from_false, not_from_true, cases_Bool, false_from_ne_true}
-use Rattle.std.proofs.lemmas.List.{append-nil, map-append}
+use Rattle.std.proofs.Common.{◌≡◌, ℕ, zero, suc, ◌+◌, ◌<◌, ◌≤◌, Bool, true, false, not, cond, ◌&&◌, ◌||◌, List, [], ◌∷◌, ◌++◌, filter, length, get_or, slice_get, take, drop, is_some, Some, None, IsTrue, refl, sym, ap, ◌∙◌, arith, true≢false}
+use Rattle.std.proofs.lemmas.Bool.{and_parts, and_from, or_parts, or_left, or_right, not_from_false, not_from_true, false_from_ne_true}
+use Rattle.std.proofs.lemmas.List.{append-nil, at_drop_all, at_drop_more, map-append}
 use Rattle.std.proofs.lemmas.List.Elements.{filter_agree, filter-append}
 use Rattle.dg_base.specs.declared.ids.Endpoint.{Endpoint}
 use Rattle.dg_base.specs.Same.{same_end}
 use Rattle.dg_base.specs.Order.{is_end_among}
-use Rattle.dg_laws.proofs.Among.{same_answer}
-use Rattle.dg_laws.proofs.Ends.{same_end-is, same_end-itself}
+use Rattle.dg_laws.proofs.Among.{same_answer, same-swap}
+use Rattle.dg_laws.proofs.Ends.{same_end-is, same_end-itself, ends_tell}
 use Rattle.dg_cache.specs.declared.entry.Entry.{Entry}
-use Rattle.dg_cache.specs.Entries.{ends_of, ends_once, is_at, entry_of, others, to_front, value_in, entries_at}
-use Rattle.dg_cache.proofs.Ends.{outside_one, filter_twice, filter_none, filter_absent, filter_once, once_head, once_tail, once_filter, once_front}
+use Rattle.dg_cache.specs.Entries.{ends_of, ends_once, is_at, entry_of, others, without, to_front, value_in, entries_at}
+use Rattle.dg_cache.proofs.Ends.{outside_one, filter_twice, filter_none, filter_once, once_head, once_tail, neither}
 
 -- the entries whose endpoints pass a test
 abbrev pub kept : (Endpoint → Bool) → List Entry → List Entry
@@ -166,3 +166,41 @@ value_among e [] = refl
 value_among e (x ∷ es) =
     let rest = value_among e es in
     elim (same_end e x.at) as (λ b. is_some (cond b (Some x.value) (value_in es e)) ≡ (b || is_end_among (ends_of es) e)) [ true ↦ refl | false ↦ rest ]
+
+-- ---- the entries outside some endpoints, one after the other
+
+pub without-one : (d : Endpoint) (ds : List Endpoint) (es : List Entry) → without ds (others d es) ≡ without (d ∷ ds) es
+without-one d ds es =
+    filter_twice (λ (x : Entry). not (is_end_among ds x.at)) (λ (x : Entry). not (same_end d x.at)) es
+    ∙ filter_agree (λ (x : Entry). not (same_end d x.at) && not (is_end_among ds x.at)) (λ (x : Entry). not (same_end x.at d || is_end_among ds x.at))
+    (λ x. ap (λ b. not b && not (is_end_among ds x.at)) (same-swap ends_tell d x.at) ∙ neither (same_end x.at d) (is_end_among ds x.at)) es
+
+pub without-none : (es : List Entry) → without [] es ≡ es
+without-none [] = refl
+without-none (x ∷ es) = ap (λ (z : List Entry). x ∷ z) (without-none es)
+
+pub without-next : (gone : List Endpoint) (i : ℕ) (d : Endpoint) (es : List Entry) → i < length gone →
+    without (drop (i + 1) gone) (others (get_or gone i d) es) ≡ without (drop i gone) es
+without-next gone i d es inside = without-one (get_or gone i d) (drop (i + 1) gone) es ∙ sym (at_drop_more (λ ds. without ds es) gone i d inside)
+
+pub without-end : (gone : List Endpoint) (i : ℕ) (es : List Entry) → length gone ≤ i → without (drop i gone) es ≡ es
+without-end gone i es all = at_drop_all (λ ds. without ds es) gone i all ∙ without-none es
+
+-- ---- the first entries, one more
+
+pub taken_one : (es : List Entry) (n : ℕ) (x : Entry) → slice_get es n ≡ Some x → take (n + 1) es ≡ take n es ++ x ∷ []
+taken_one es n x h = let more : n + 1 ≡ suc n = omega arith in ap (λ k. take k es) more ∙ next es n h
+  where
+    next : (fs : List Entry) (k : ℕ) → slice_get fs k ≡ Some x → take (suc k) fs ≡ take k fs ++ x ∷ []
+    next [] k is = let no : ⊥ = cc in absurd no
+    next (y ∷ fs) zero is = let same : y ≡ x = cc in ap (λ (z : Entry). z ∷ []) same
+    next (y ∷ fs) (suc k) is = ap (λ (z : List Entry). y ∷ z) (next fs k is)
+
+pub taken_all : (es : List Entry) (n : ℕ) → slice_get es n ≡ None → take (n + 1) es ≡ take n es
+taken_all es n h = let more : n + 1 ≡ suc n = omega arith in ap (λ k. take k es) more ∙ next es n h
+  where
+    next : (fs : List Entry) (k : ℕ) → slice_get fs k ≡ None → take (suc k) fs ≡ take k fs
+    next [] zero is = refl
+    next [] (suc k) is = refl
+    next (y ∷ fs) zero is = let no : ⊥ = cc in absurd no
+    next (y ∷ fs) (suc k) is = ap (λ (z : List Entry). y ∷ z) (next fs k is)

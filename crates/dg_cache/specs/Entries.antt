@@ -10,6 +10,10 @@ use Rattle.dg_cache.specs.declared.entry.Entry.{Entry}
 abbrev pub ends_of : List Entry → List Endpoint
 ends_of es = map (λ x. x.at) es
 
+-- as the pairs of a map
+abbrev pub pairs_of : List Entry → List (Endpoint × Answer)
+pairs_of es = map (λ x. (x.at, x.value)) es
+
 -- each endpoint stands once
 abbrev pub ends_once : List Endpoint → Bool
 ends_once [] = true

@@ -1,31 +1,43 @@
--- How a cache is kept: its endpoints, most recent first, and its entries in endpoint order.
-use Rattle.std.specs.Prelude.{◌≡◌, ◌≤◌, ℕ, List, [], ◌∷◌, ◌||◌, cond, not, filter, nat_lt, length, Option, Some, None, IsTrue}
-use Rattle.std.specs.Arc.{arc_value}
-use Rattle.std.specs.declared.alloc.Global.{Global}
-use Rattle.std.specs.declared.sync.Arc.{Arc}
-use Rattle.std.specs.declared.vec.Vec.{Vec}
+-- How a cache is kept: its endpoints by their last use, and a map from endpoints to answers.
+use Rattle.std.specs.Prelude.{◌≡◌, ◌≤◌, ℕ, List, [], ◌∷◌, ◌||◌, cond, not, filter, map, nat_lt, length, Option, Some, None, IsTrue}
+use Rattle.std.specs.Map.{keys_of}
+use Rattle.lru.specs.LruCache.{LruCache}
 use Rattle.dg_base.specs.declared.ids.Endpoint.{Endpoint}
 use Rattle.dg_base.specs.declared.answer.Answer.{Answer}
 use Rattle.dg_base.specs.Same.{same_end}
 use Rattle.dg_base.specs.Order.{is_end_among, ordered}
 use Rattle.dg_cache.specs.declared.entry.Entry.{Entry}
-use Rattle.dg_cache.specs.Entries.{ends_of, ends_once, is_at, others}
+use Rattle.dg_cache.specs.Entries.{ends_of, ends_once, others}
 use Rattle.dg_cache.specs.Caches.{Cached}
 
+-- the endpoints that have a place, the one that was used last first
+abbrev pub Recency : Type 0
+Recency = Option (LruCache Endpoint (Unit {0}))
+
+abbrev pub ends_by_use : Recency → List Endpoint
+ends_by_use None = []
+ends_by_use (Some order) = keys_of order.entries
+
+-- how many of them there may be; it is still open where none ever had a place
+abbrev pub most_of : ℕ → Recency → ℕ
+most_of capacity None = capacity
+most_of capacity (Some order) = order.cap
+
+-- the pairs of a map as entries
+abbrev pub entries_from : List (Endpoint × Answer) → List Entry
+entries_from pairs = map (λ p. record { at = p.0; value = p.1 }) pairs
+
+-- a snapshot's entries: there are none where there is no map
+abbrev pub shown : Option (List (Endpoint × Answer)) → List Entry
+shown None = []
+shown (Some pairs) = entries_from pairs
+
+-- the endpoints in use, each once and at most as many as the capacity, are those of the values
 pub record IsLaidOut (capacity : ℕ) (ends : List Endpoint) (values : List Entry) : Type 0 where
   pub some : 1 ≤ capacity
   pub short : length ends ≤ capacity
   pub once : IsTrue (ends_once ends)
   pub same : ends_of values ≡ ordered ends
-
--- a list of entries behind a counted pointer
-abbrev pub Shelf : Type 0
-Shelf = Option (Arc (Vec Entry Global) Global)
-
--- there are none where there is no list
-abbrev pub shelved : Shelf → List Entry
-shelved None = []
-shelved (Some list) = (arc_value list).items
 
 -- the entries without those of an endpoint, if one is named
 abbrev pub leaving : Option Endpoint → List Entry → List Entry
@@ -36,11 +48,6 @@ leaving (Some e) es = others e es
 abbrev pub ends_leaving : Option Endpoint → List Endpoint → List Endpoint
 ends_leaving None ends = ends
 ends_leaving (Some e) ends = filter (λ x. not (same_end e x)) ends
-
--- the answer of an entry, where it is one of an endpoint
-abbrev pub value_of : Endpoint → Option Entry → Option Answer
-value_of e None = None
-value_of e (Some x) = cond (is_at e x) (Some x.value) None
 
 -- the endpoint of the last entry
 abbrev pub last_end : List Entry → Option Endpoint

@@ -8,11 +8,10 @@
 
 // An endpoint with its answer.
 mod entry;
-// Entries in endpoint order, shared.
-mod ordered;
+// The answers by endpoint, in a map that is shared.
 mod snapshot;
 mod values;
-// The endpoints by how recent they are, and the cache.
+// The endpoints by their last use, and the cache.
 mod cache;
 mod recent;
 // Tests and callers.

@@ -1,84 +1,104 @@
-//! Entries in endpoint order, which a cache shares with its snapshots.
-ghost use Rattle.std.specs.Prelude.{◌≡◌, ◌∷◌, [], IfOk, OnOk, OnErr, IsTrue};
+//! The answers by endpoint, in a map that snapshots share.
+ghost use Rattle.std.specs.Prelude.{◌≡◌, ◌<◌, ◌∷◌, IfOk, OnOk, IsTrue, length, slice_get};
+ghost use Rattle.std.specs.Option.{option_copied};
 ghost use Rattle.dg_base.specs.Order.{ends_rise};
-ghost use Rattle.dg_cache.specs.Entries.{ends_of, in_order, others, without};
-ghost use Rattle.dg_cache.specs.Layout.{leaving, shelved};
+ghost use Rattle.dg_cache.specs.Entries.{ends_of, ends_once, in_order, others, value_in, without};
+ghost use Rattle.dg_cache.specs.Layout.{entries_from, leaving};
 
 use crate::Entry;
-use crate::ordered::{keep_others, keep_outside, put_in};
-use dg_base::Endpoint;
+use dg_base::{Endpoint, Held};
+use dg_pmap::{Kept, PMap};
 use std::alloc::{AllocError, Global};
-use std::sync::Arc;
 
-/// Entries in endpoint order, which several owners share. They are copied before a change where they are
-/// shared. Without entries it takes no memory.
-pub(crate) type Values = Option<Arc<Vec<Entry>, Global>>;
+/// The answers by endpoint. A share of the map is had in constant time, and none changes through
+/// another.
+pub(crate) type Values = PMap<Endpoint, Kept<Held>>;
 
-pub(crate) fn entries_of(values: &Values) -> &[Entry]
-    ensures { result.now ≡ shelved values.now }
+/// In logarithmic time.
+pub(crate) fn get(values: &Values, at: Endpoint) -> Option<&Held>
+    ensures { option_copied result ≡ value_in (entries_from values.now) at }
 {
-    match values {
-        Some(list) => list.as_slice(),
-        None => &[],
-    }
-}
-
-/// In constant time.
-pub(crate) fn share(values: &Values) -> Result<Values, AllocError>
-    ensures { IfOk result (λ v. shelved v ≡ shelved values.now) }
-{
-    match values {
-        Some(list) => Ok(Some(Arc::try_clone(list)?)),
-        None => Ok(None),
+    match values.get(&at) {
+        Some(kept) => Some(kept.value()),
+        None => None,
     }
 }
 
 /// Puts an entry in place of the one of its endpoint, and drops the entry of another one, if one is
-/// named. Where memory is refused, nothing changed.
+/// named. In logarithmic time.
 pub(crate) fn put(
     values: &mut Values,
     alloc: Global,
     entry: Entry,
     gone: Option<Endpoint>,
 ) -> Result<(), AllocError>
-    requires { IsTrue (ends_rise (ends_of (shelved values.old))) }
-    ensures ok { OnOk result (shelved values.new ≡ in_order (entry ∷ others entry.at (leaving gone (shelved values.old)))) }
-    ensures err { OnErr result (shelved values.new ≡ shelved values.old) }
+    requires { IsTrue (ends_rise (ends_of (entries_from values.old))) }
+    ensures { OnOk result (entries_from values.new ≡ in_order (entry ∷ others entry.at (leaving gone (entries_from values.old)))) }
 {
-    let Some(kept) = values else {
-        let mut list = Vec::with_capacity(alloc, 1)?;
-        put_in(&mut list, entry, gone);
-        *values = Some(Arc::new(alloc, list)?);
-        return Ok(());
-    };
-    let list = Arc::make_mut(kept)?;
-    list.reserve(1)?;
-    put_in(list, entry, gone);
+    leave(values, gone)?;
+    insert(values, alloc, entry)
+}
+
+fn leave(values: &mut Values, gone: Option<Endpoint>) -> Result<(), AllocError>
+    requires { IsTrue (ends_once (ends_of (entries_from values.old))) }
+    ensures { OnOk result (entries_from values.new ≡ leaving gone (entries_from values.old)) }
+{
+    match gone {
+        Some(end) => take_out(values, end),
+        None => Ok(()),
+    }
+}
+
+fn insert(values: &mut Values, alloc: Global, entry: Entry) -> Result<(), AllocError>
+    requires { IsTrue (ends_rise (ends_of (entries_from values.old))) }
+    ensures { OnOk result (entries_from values.new ≡ in_order (entry ∷ others entry.at (entries_from values.old))) }
+{
+    let kept = Kept::new(alloc, entry.value)?;
+    values.insert(entry.at, kept)?;
     Ok(())
 }
 
-/// Drops the entry of an endpoint. Where memory is refused, nothing changed.
+/// Takes an endpoint's entry out. In logarithmic time.
 pub(crate) fn take_out(values: &mut Values, at: Endpoint) -> Result<(), AllocError>
-    ensures ok { OnOk result (shelved values.new ≡ others at (shelved values.old)) }
-    ensures err { OnErr result (shelved values.new ≡ shelved values.old) }
+    requires { IsTrue (ends_once (ends_of (entries_from values.old))) }
+    ensures { OnOk result (entries_from values.new ≡ others at (entries_from values.old)) }
 {
-    let Some(kept) = values else {
-        return Ok(());
-    };
-    let list = Arc::make_mut(kept)?;
-    keep_others(list, at);
+    values.remove(&at)?;
     Ok(())
 }
 
-/// Drops the entries of some endpoints. Where memory is refused, nothing changed.
-pub(crate) fn retain_outside(values: &mut Values, gone: &[Endpoint]) -> Result<(), AllocError>
-    ensures ok { OnOk result (shelved values.new ≡ without gone.now (shelved values.old)) }
-    ensures err { OnErr result (shelved values.new ≡ shelved values.old) }
+/// Takes the entries of some endpoints out, in logarithmic time for each of these.
+pub(crate) fn take_out_all(values: &mut Values, gone: &[Endpoint]) -> Result<(), AllocError>
+    requires { IsTrue (ends_once (ends_of (entries_from values.old))) }
+    ensures { OnOk result (entries_from values.new ≡ without gone.now (entries_from values.old)) }
 {
-    let Some(kept) = values else {
-        return Ok(());
-    };
-    let list = Arc::make_mut(kept)?;
-    keep_outside(list, gone);
+    for end in gone.iter() {
+        take_out(values, *end)?;
+    }
     Ok(())
+}
+
+/// The entries, shared, in endpoint order.
+pub(crate) fn entries_of(values: &Values, alloc: Global) -> Result<Vec<Entry>, AllocError>
+    ensures { IfOk result (λ v. v.items ≡ entries_from values.now) }
+{
+    let mut entries = Vec::with_capacity(alloc, values.len())?;
+    for place in 0..values.len() {
+        if let Some(entry) = entry_at(values, place)? {
+            entries.push(entry)?;
+        }
+    }
+    Ok(entries)
+}
+
+fn entry_at(values: &Values, place: usize) -> Result<Option<Entry>, AllocError>
+    ensures { IfOk result (λ x. x ≡ slice_get (entries_from values.now) place) }
+{
+    match values.at(place) {
+        Some((at, kept)) => {
+            let value = kept.value().share()?;
+            Ok(Some(Entry { at: *at, value }))
+        }
+        None => Ok(None),
+    }
 }

@@ -118,14 +118,14 @@ fn same_cache<J: LineName, R: Wait + Drop>(
     desk: &Desk<Shown<Go, J>>,
     items: &[Item],
 ) -> Result<bool, AllocError> {
-    let snapshot = desk.snapshot(line, desk.now())?;
-    for entry in snapshot.as_slice().iter() {
+    let entries = desk.snapshot(line, desk.now())?.entries(alloc)?;
+    for entry in entries.iter() {
         let item = item_of(entry);
         if !items.contains(&item) || !is_right(alloc, desk.now(), item)? {
             return Ok(false);
         }
     }
-    Ok(snapshot.as_slice().len() == items.len())
+    Ok(entries.len() == items.len())
 }
 
 fn told_by<J: LineName, R: Wait + Drop>(

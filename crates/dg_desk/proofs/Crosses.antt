@@ -2,13 +2,18 @@
 use denote.RattleType.{RattleType}
 use denote.Param.Send.{IsSend, IsSync, sendable}
 use Rattle.std.proofs.Crossing.{crosses}
+use Rattle.dg_base.proofs.datum.Datum.TheLaws.TheKnot as datum
+use Rattle.dg_base.specs.declared.schema.Schema as schema
 use Rattle.dg_cache.proofs.Crosses.{Cache-send, Cache-sync, Entry-send, Entry-sync}
 use Rattle.dg_line.specs.declared.ticket.Mark as mark
+use Rattle.dg_line.specs.contracts.counters.Counters as counters_type
+use Rattle.dg_line.specs.contracts.revision.Revision as revision_type
 use Rattle.dg_line.specs.contracts.ticket.Ticket as ticket_type
 use Rattle.dg_line.specs.contracts.link.Link as link_type
 use Rattle.dg_offer.specs.contracts.offer.Offer as offer_type
 use Rattle.dg_desk.specs.contracts.event.DeskEvent as event_type
 use Rattle.dg_desk.specs.contracts.desk.Desk as desk_type
+use Rattle.dg_view.specs.contracts.graph.Graph as graph_type
 
 -- the records of tickets, links and offers
 module _ (K O T : RattleType) where
@@ -42,3 +47,24 @@ module _ (M T : RattleType) (w : mark.Ghosts M.Denot T.Denot) where
 
   pub Desk-sync : IsSend M → IsSync M → IsSend T → IsSync T → IsSync (desk_type.the_row M T w)
   Desk-sync a b c d = search (Ticket-sync, Link-sync, Offer-sync, Event-sync, Cache-sync, sendable, crosses) depth 30
+
+-- ---- what a mark stands for, where that is a revision
+
+Counters-send : IsSend counters_type.the_row
+Counters-send = search (sendable, crosses) depth 20
+
+Counters-sync : IsSync counters_type.the_row
+Counters-sync = search (sendable, crosses) depth 20
+
+module _ (S : RattleType) (s : schema.Ghosts S.Denot) where
+  Graph-send : IsSend S → IsSync S → IsSend (graph_type.the_row S s)
+  Graph-send a b = search (sendable, crosses, datum.crosses) depth 40 fits 8000
+
+  Graph-sync : IsSend S → IsSync S → IsSync (graph_type.the_row S s)
+  Graph-sync a b = search (sendable, crosses, datum.crosses) depth 40 fits 8000
+
+  pub Revision-send : IsSend S → IsSync S → IsSend (revision_type.the_row S s)
+  Revision-send a b = search (Graph-send, Counters-send, sendable) depth 20
+
+  pub Revision-sync : IsSend S → IsSync S → IsSync (revision_type.the_row S s)
+  Revision-sync a b = search (Graph-sync, Counters-sync, sendable) depth 20

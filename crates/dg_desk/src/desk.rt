@@ -177,7 +177,8 @@ impl<T: Drop, M: Mark<Of = T>> Desk<M> {
         }
     }
 
-    /// Follows a link of the desk's line. Linear in the entries, with a search in what is dirty for each.
+    /// Follows a link of the desk's line. Logarithmic in the entries for each endpoint that is dirty, whatever else the
+    /// cache has.
     pub fn follow<N: Line<T, Mark = M>>(&mut self, line: &N, link: Link<M>) -> Followed
         requires desk { (p : Pin T M) → Contains (state_of M.seen self.old).list p → N.is_of line.now p }
         requires link { N.is_of line.now link.from }
@@ -314,8 +315,8 @@ impl<T: Drop, M: Mark<Of = T>> Desk<M> {
     }
 
     /// Takes what is unchanged since the offer's revision: the hits that are there go to the front, and the kept
-    /// entries are put, in order, as long as there is memory. Linear in the entries of the cache for each hit and
-    /// each kept entry, and for an offer of an earlier revision in the listed ones after it.
+    /// entries are put, in order, as long as there is memory. Logarithmic in the entries of the cache for each
+    /// hit and each kept entry, and for an offer of an earlier revision linear in the listed ones after it.
     pub fn publish<N: Line<T, Mark = M>>(&mut self, line: &N, offer: Offer<M>) -> Published
         requires desk { (p : Pin T M) → Contains (state_of M.seen self.old).list p → N.is_of line.now p }
         requires offer { N.is_of line.now offer.ticket }

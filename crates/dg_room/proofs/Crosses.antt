@@ -11,16 +11,11 @@ use Rattle.std.specs.declared.sync.ledger.Ledger as ledger
 use Rattle.boxcar.proofs.Sent as sent
 use Rattle.boxcar.specs.contracts.slot.OnceSlot as slot_type
 use Rattle.boxcar.specs.declared.slot.SlotRule as slot_rule
-use Rattle.dg_base.proofs.datum.Datum.TheLaws.TheKnot as datum
-use Rattle.dg_base.specs.declared.schema.Schema as schema
-use Rattle.dg_desk.proofs.Crosses.{Desk-send}
-use Rattle.dg_line.specs.contracts.counters.Counters as counters_type
-use Rattle.dg_line.specs.contracts.revision.Revision as revision_type
+use Rattle.dg_desk.proofs.Crosses.{Desk-send, Revision-send, Revision-sync}
 use Rattle.dg_line.specs.contracts.rows.Rows as rows_type
 use Rattle.dg_line.specs.contracts.shared_line.SharedLine as shared_line_type
 use Rattle.dg_line.specs.contracts.shown.Shown as shown_type
 use Rattle.dg_line.specs.declared.rows.LineName as line_name
-use Rattle.dg_view.specs.contracts.graph.Graph as graph_type
 use Rattle.dg_line.specs.declared.ticket.Mark as mark
 use Rattle.dg_room.specs.declared.names.RoomName as room_name
 use Rattle.dg_room.specs.contracts.books.Books as books_type
@@ -96,25 +91,6 @@ module _ (T : RattleType) where
 
   Rows-sync : IsSend T → IsSync T → IsSync (rows_type.the_row T)
   Rows-sync a b = search (Slot-send, Slot-sync, sent.tag_send, sent.tag_sync, sendable, crosses) depth 40
-
-Counters-send : IsSend counters_type.the_row
-Counters-send = search (sendable, crosses) depth 20
-
-Counters-sync : IsSync counters_type.the_row
-Counters-sync = search (sendable, crosses) depth 20
-
-module _ (S : RattleType) (s : schema.Ghosts S.Denot) where
-  Graph-send : IsSend S → IsSync S → IsSend (graph_type.the_row S s)
-  Graph-send a b = search (sendable, crosses, datum.crosses) depth 40 fits 8000
-
-  Graph-sync : IsSend S → IsSync S → IsSync (graph_type.the_row S s)
-  Graph-sync a b = search (sendable, crosses, datum.crosses) depth 40 fits 8000
-
-  pub Revision-send : IsSend S → IsSync S → IsSend (revision_type.the_row S s)
-  Revision-send a b = search (Graph-send, Counters-send, sendable) depth 20
-
-  pub Revision-sync : IsSend S → IsSync S → IsSync (revision_type.the_row S s)
-  Revision-sync a b = search (Graph-sync, Counters-sync, sendable) depth 20
 
 module _ (T J : RattleType) (j : line_name.Ghosts J.Denot) where
   pub Shown-send : IsSend T → IsSync T → IsSend J → IsSync J → IsSend (shown_type.the_row T J j)

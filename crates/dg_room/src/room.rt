@@ -68,8 +68,8 @@ impl<S: Schema, J: LineName, K: RoomName, R: Wait + Drop> Room<
         ))
     }
 
-    /// Follows a link, by pass 0, which has followed less often than there are revisions. Linear in the entries
-    /// under the lock, with a search in what is dirty for each.
+    /// Follows a link, by pass 0, which has followed less often than there are revisions. Logarithmic in the
+    /// entries under the lock, for each endpoint that is dirty.
     pub fn follow<W: Wait>(
         &self,
         rt: &W,

@@ -132,8 +132,8 @@ impl<S: Schema, N: Line<Revision<S>> + Drop> World<S, N> {
         self.made
     }
 
-    /// One event. An edit costs what the editor's does, and a look at each entry of the cache; an evaluation what it
-    /// evaluates; a publication a look through the cache for each of its entries and hits.
+    /// One event. An edit costs what the editor's does, and a logarithm of the cache for each endpoint that it makes dirty;
+    /// an evaluation what it evaluates; a publication such a logarithm for each of its entries and hits.
     pub fn step<L: Ledger>(&mut self, event: &Event, steps: &mut Steps<L>) -> Outcome
         ensures step { IsStep S.tables N.Mark.seen self.old event.now result self.new }
         ensures steps { result ≢ outcome.NoMemory → steps.new ≡ steps.old + productions_of S.tables N.Mark.seen self.old event.now }

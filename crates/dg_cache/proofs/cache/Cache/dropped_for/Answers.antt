@@ -1,5 +1,4 @@
-use Rattle.std.proofs.Common.{◌≡◌, ◌<◌, ◌≤◌, ◌∷◌, ◌||◌, sym, ap, ◌∙◌, arith, cond, filter, not, None, nat_lt, length, vec_len, vec_capacity, rules, le-ltb, lt-ltb, refl}
-use Rattle.dg_cache.specs.Entries.{ends_of}
+use Rattle.std.proofs.Common.{◌≤◌, ◌||◌, sym, ap, ◌∙◌, arith, cond, None, nat_lt, length, le-ltb}
 use Rattle.dg_cache.specs.Layout.{last_end}
 use Rattle.dg_cache.proofs.Laying.{held}
 use Rattle.dg_cache.proofs.cache.Cache.dropped_for.Goals as goal
@@ -11,7 +10,7 @@ returns-then-has c =
 
 pub returns : goal.returns
 returns c =
-    let h = held c.self.invariant c.self.view_is in
+    let h = held c.self.invariant.0 c.self.view_is in
     let new = sym c.has.ensures ∙ c.if-has.false in
     let m = c.len.ensures in let k = h.capacity in let f = c.if-len-self.false in
     let full : c.args.self.now.capacity ≤ length c.args.self.now.entries = omega (arith, m, k, f) in
