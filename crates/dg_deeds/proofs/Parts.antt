@@ -1,5 +1,5 @@
 -- Deeds in two parts, the lines among deeds, whole files, and lines alone.
-use Rattle.std.proofs.Common.{◌≡◌, ◌≢◌, ℕ, suc, ◌+◌, ◌<◌, List, [], ◌∷◌, ◌++◌, map, length, take, drop, get_or, Option, Some, None, refl, sym, ap, ◌∙◌, subst, inl, inr, append_assoc, append-nil}
+use Rattle.std.proofs.Common.{◌≡◌, ◌≢◌, ℕ, arith, zero, suc, ◌+◌, ◌<◌, List, [], ◌∷◌, ◌++◌, map, length, take, drop, get_or, Option, Some, None, refl, sym, ap, ◌∙◌, subst, inl, inr, append_assoc, append-nil}
 use Rattle.std.proofs.Math.Seq.{drop-cons}
 use Rattle.std.proofs.lemmas.Grind.{take_at_read}
 use Rattle.std.proofs.lemmas.List.{take-append-drop}
@@ -12,7 +12,7 @@ use Rattle.dg_deeds.specs.declared.deed.Deed.TheVariants.{Write, Put}
 use Rattle.dg_deeds.specs.declared.deed.Stop.{Stop}
 use Rattle.dg_deeds.specs.declared.deed.Stop.TheVariants as stop
 use Rattle.dg_deeds.specs.Printed.{text_of, GotPrefix}
-use Rattle.dg_deeds.specs.Deeds.{tree_with, tree_after, text_with, text_after, lines_in, IsUntouched, IsPartOf, IsBehindAll, IsBegun}
+use Rattle.dg_deeds.specs.Deeds.{AreLines, IsLine, tree_with, tree_after, text_with, text_after, lines_in, IsUntouched, IsPartOf, IsBehindAll, IsBegun}
 use Rattle.dg_deeds.proofs.Sinks.{GotPrefix-nothing, GotPrefix-front, GotPrefix-behind}
 
 -- ---- two parts
@@ -224,3 +224,21 @@ pub IsBegun-line : (s : Stop) → s ≢ stop.FileFault → (line : List ℕ) (tr
 IsBegun-line stop.FileFault differs line tree tree_now text text_now same part = absurd (differs refl)
 IsBegun-line stop.SinkFault differs line tree tree_now text text_now same part = inl (same, part)
 IsBegun-line stop.NoMemory differs line tree tree_now text text_now same part = inl (same, part)
+
+-- the i-th of lines alone is one
+pub line-at : (ds : List Deed) (i : ℕ) (d : Deed) → AreLines ds → d ≡ get_or ds i d → i < length ds → IsLine d
+line-at [] i d are is lt = absurd (omega (arith, lt))
+line-at (e ∷ ds) zero d are is lt = subst IsLine (sym is) are.0
+line-at (e ∷ ds) (suc i) d are is lt = line-at ds i d are.1 is (omega (arith, lt))
+
+pub lines-are : (lines : List (List ℕ)) → AreLines (map Put lines)
+lines-are [] = tt
+lines-are (line ∷ lines) = (tt, lines-are lines)
+
+pub lines-first : (ds es : List Deed) → AreLines (ds ++ es) → AreLines ds
+lines-first [] es are = tt
+lines-first (d ∷ ds) es are = (are.0, lines-first ds es are.1)
+
+pub lines-second : (ds es : List Deed) → AreLines (ds ++ es) → AreLines es
+lines-second [] es are = are
+lines-second (d ∷ ds) es are = lines-second ds es are.1

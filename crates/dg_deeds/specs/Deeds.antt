@@ -33,6 +33,15 @@ lines_in [] = []
 lines_in (Write path bytes ∷ deeds) = lines_in deeds
 lines_in (Put line ∷ deeds) = line ∷ lines_in deeds
 
+-- a deed that touches no file, and such ones alone
+abbrev pub IsLine : Deed → Type 0
+IsLine (Write path bytes) = ⊥
+IsLine (Put line) = Unit {0}
+
+abbrev pub AreLines : List Deed → Type 0
+AreLines [] = Unit {0}
+AreLines (deed ∷ deeds) = IsLine deed × AreLines deeds
+
 -- ---- cut off. Trees and bytes are there where the files and the sink tell them
 
 -- nothing is done

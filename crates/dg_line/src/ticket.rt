@@ -70,6 +70,13 @@ impl<M: Mark> Ticket<M> {
         &self.revision
     }
 
+    /// The revision, held on after the ticket is let go.
+    pub fn into_revision(self) -> Arc<M::Of, Global>
+        ensures { arc_value result ≡ self.revision }
+    {
+        self.revision
+    }
+
     /// Where the revision stands in its line.
     pub fn index(&self) -> usize
         ensures { result ≡ self.now.index }

@@ -21,7 +21,7 @@ use Rattle.dg_line.specs.Revisions.{Seen}
 use Rattle.dg_editor.specs.declared.cause.EditCause.{EditCause}
 use Rattle.dg_editor.specs.declared.cause.EditCause.TheVariants as edit
 use Rattle.dg_editor.specs.Machine.{State as Editor, edited, made_by, undo_of, redo_of}
-use Rattle.dg_play.specs.Asks.{Ask}
+use Rattle.dg_asks.specs.Asks.{Ask}
 use Rattle.dg_play.specs.Pins.{Pinned, pin_named, without_pin, max_pins}
 
 -- what a script has at a moment: the editor, the live pins, the names of nodes, and the interned names

@@ -13,7 +13,7 @@ use Rattle.dg_world.specs.Steps.{walk_of, valued}
 use Rattle.dg_script.specs.declared.command.Command.{Command}
 use Rattle.dg_script.specs.declared.command.Act.{Act}
 use Rattle.dg_script.specs.declared.command.Act.TheVariants as act
-use Rattle.dg_play.specs.Asks.{Ask}
+use Rattle.dg_asks.specs.Asks.{Ask}
 use Rattle.dg_play.specs.Play.{State, Reply, Answers, Builds, Turn, turn_of}
 
 -- the entries of the cache, most recent first; how many productions were made, how many entries of what was offered

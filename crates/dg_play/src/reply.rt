@@ -1,17 +1,17 @@
 //! What a command prints.
 ghost use Rattle.std.specs.Prelude.{◌≡◌};
 ghost use Rattle.dg_play.specs.Play.{refusal_reply};
-ghost use Rattle.dg_play.specs.Seen.{reply_of};
+ghost use Rattle.dg_asks.specs.Asks.{Ask};
+ghost use Rattle.dg_play.specs.Seen.{reply_by};
 
-use crate::answered::Answered;
 use dg_base::TxCode;
 use dg_bind::Missing;
 use dg_editor::EditCause;
 
 /// What a command prints: a text that is known at once, the answer that was asked for, or what the answer that was
-/// built comes to.
+/// built comes to. It holds what the session gives for an answer.
 #[derive(Drop)]
-pub enum Reply {
+pub enum Reply<A> {
     Done,
     Empty,
     LineFull,
@@ -28,20 +28,20 @@ pub enum Reply {
     /// A pin is at the revision with this number.
     PinnedAt { number: u32 },
     NoPin,
-    Answers(Answered),
-    Builds(Answered),
+    Answers(A),
+    Builds(A),
 }
 
 /// A command's line in the script, with what the command prints.
 #[derive(Drop)]
-pub struct Line {
+pub struct Line<A> {
     pub number: u32,
-    pub reply: Reply,
+    pub reply: Reply<A>,
 }
 
 /// What is printed of a call that the editor refuses.
-pub(crate) fn refusal_reply(cause: EditCause) -> Reply
-    ensures { reply_of result ≡ refusal_reply cause }
+pub(crate) fn refusal_reply<A>(cause: EditCause) -> Reply<A>
+    ensures { (asked : A → Ask) → reply_by asked result ≡ refusal_reply cause }
 {
     match cause {
         EditCause::Empty => Reply::Empty,

@@ -1,43 +1,36 @@
 //! A transaction of a script.
-ghost use Rattle.std.specs.Prelude.{◌≡◌, ◌+◌, IfOk, OnOk};
+ghost use Rattle.std.specs.Prelude.{◌≡◌, IfOk, OnOk};
 ghost use Rattle.dg_bind.specs.Steps.{steps_bound};
 ghost use Rattle.dg_kinds_coll.specs.Defold.{defold_tables};
-ghost use Rattle.dg_play.specs.Desk.{IsMovedOn};
-ghost use Rattle.dg_play.specs.Play.{edits, transacted, transaction};
-ghost use Rattle.dg_play.specs.Seen.{reply_of, state_of};
+ghost use Rattle.dg_play.specs.Play.{edits, transaction};
+ghost use Rattle.dg_play.specs.Seen.{reply_by, state_by};
+ghost use Rattle.dg_play.specs.Sessions.{MovesOn};
 ghost use Rattle.dg_play.specs.States.{IsPlayed};
 
-use crate::outcome::change_of;
 use crate::reply::{Reply, refusal_reply};
+use crate::session::Session;
 use crate::state::{State, bind_made};
-use dg_base::{Refusal, Step, Steps, Str};
+use dg_base::{Refusal, Step, Str};
 use dg_bind::{BoundSteps, bind_steps};
 use dg_script::StepWords;
-use dg_world::Event;
-use sqlite_items::Items;
 use std::alloc::{AllocError, Global};
-use std::sync::ledger::Ledger;
 
 /// Does the steps, all or none, and answers what is printed. The names that they intern stay interned.
-pub(crate) fn transaction<L: Ledger>(
+pub(crate) fn transaction<P: Session>(
     alloc: Global,
-    state: &mut State,
+    state: &mut State<P>,
     words: &[StepWords],
-    steps: &mut Steps<L>,
-) -> Result<Reply, AllocError>
-    requires { IsPlayed state.old }
-    ensures turn { IfOk result (λ r. transaction defold_tables (state_of state.old) words.now ≡ record { state = state_of state.new; reply = reply_of r }) }
-    ensures played { OnOk result (IsPlayed state.new) }
-    ensures work { OnOk result (IsMovedOn state.old.world state.new.world) }
-    ensures steps { OnOk result (steps.new + state.old.world.made ≡ steps.old + state.new.world.made) }
+) -> Result<Reply<P::Answer>, AllocError>
+    requires { IsPlayed P.is_ready P.shows state.old }
+    ensures turn { IfOk result (λ r. transaction defold_tables (state_by P.shows state.old) words.now ≡ record { state = state_by P.shows state.new; reply = reply_by P.asked r }) }
+    ensures played { OnOk result (IsPlayed P.is_ready P.shows state.new) }
+    ensures work { OnOk result (MovesOn P.shows P.has_done state.old.session state.new.session) }
+    ensures made { OnOk result (P.made state.new.session ≡ P.made state.old.session) }
 {
     match bind_steps(alloc, &state.bound, &mut state.names, words) {
         Ok(bound) => {
-            let BoundSteps {
-                steps: all,
-                new_names,
-            } = bound;
-            edit(state, all, new_names.as_slice(), steps)
+            let BoundSteps { steps, new_names } = bound;
+            edit(state, steps.as_slice(), new_names.as_slice())
         }
         Err(Refusal::Because(missed)) => Ok(Reply::Misses {
             step: missed.step,
@@ -48,27 +41,22 @@ pub(crate) fn transaction<L: Ledger>(
 }
 
 // Does the steps, and binds the names of the nodes that they make.
-fn edit<L: Ledger>(
-    state: &mut State,
-    all: Items<Step>,
+fn edit<P: Session>(
+    state: &mut State<P>,
+    steps: &[Step],
     new_names: &[Str],
-    steps: &mut Steps<L>,
-) -> Result<Reply, AllocError>
-    requires { IsPlayed state.old }
-    ensures turn { IfOk result (λ r. edits defold_tables (state_of state.old) new_names.now all ≡ record { state = state_of state.new; reply = reply_of r }) }
-    ensures played { OnOk result (IsPlayed state.new) }
-    ensures work { OnOk result (IsMovedOn state.old.world state.new.world) }
-    ensures steps { OnOk result (steps.new + state.old.world.made ≡ steps.old + state.new.world.made) }
+) -> Result<Reply<P::Answer>, AllocError>
+    requires { IsPlayed P.is_ready P.shows state.old }
+    ensures turn { IfOk result (λ r. edits defold_tables (state_by P.shows state.old) new_names.now steps.now ≡ record { state = state_by P.shows state.new; reply = reply_by P.asked r }) }
+    ensures played { OnOk result (IsPlayed P.is_ready P.shows state.new) }
+    ensures work { OnOk result (MovesOn P.shows P.has_done state.old.session state.new.session) }
+    ensures made { OnOk result (P.made state.new.session ≡ P.made state.old.session) }
 {
-    state.world.is_world();
-    let outcome = state.world.step(&Event::Edit(all), steps);
-    let changed = change_of(outcome)?;
-    let reply = match changed {
+    match state.session.edit(steps)? {
         Ok(made) => {
             bind_made(&mut state.bound, new_names, made.as_slice())?;
-            Reply::Done
+            Ok(Reply::Done)
         }
-        Err(cause) => refusal_reply(cause),
-    };
-    Ok(reply)
+        Err(cause) => Ok(refusal_reply(cause)),
+    }
 }

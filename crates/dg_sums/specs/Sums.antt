@@ -5,7 +5,7 @@ use Rattle.dg_base.specs.declared.datum.Datum.{Datum}
 use Rattle.dg_base.specs.Tables.{Tables}
 use Rattle.dg_decimal.specs.Canonical.{canonical}
 use Rattle.dg_script.specs.declared.command.Command.{Command}
-use Rattle.dg_play.specs.Play.{Line, Played}
+use Rattle.dg_play.specs.Play.{Line}
 use Rattle.dg_sums.specs.declared.counts.Deed.TheVariants as deed
 use Rattle.dg_sums.specs.declared.counts.Outcome.TheVariants as outcome
 use Rattle.dg_sums.specs.Counts.{deeds_in, asks_in, answers_in}
@@ -38,11 +38,12 @@ abbrev pub built_line : List (List ℕ) → List Datum → List ℕ
 built_line names values =
     codes "built " ++ decimal (files_written names values) ++ codes " sum " ++ canonical (sum_along_x (entries_built values)) ++ 10 ∷ []
 
--- open names are written as those that are interned at the end: what is interned stays
-abbrev pub sum_lines : Tables → ℕ → ℕ → ℕ → List Command → Played → List (List ℕ)
-sum_lines t files nodes arcs commands p =
+-- of the lines that the commands print. Open names are written as those that are interned at the end: what is interned
+-- stays
+abbrev pub sum_lines : Tables → ℕ → ℕ → ℕ → List Command → List Line → List (List ℕ) → List (List ℕ)
+sum_lines t files nodes arcs commands lines names =
     files_line files nodes arcs
-    ∷ edits_line commands p.lines
-    ∷ answers_line t p.lines
-    ∷ built_line p.state.names (values_built t p.lines)
+    ∷ edits_line commands lines
+    ∷ answers_line t lines
+    ∷ built_line names (values_built t lines)
     ∷ []

@@ -35,4 +35,4 @@ mixed = numbered 1
     ∷ act.Ask (Some (codes "p")) (at (codes "x") (codes "value")) ∷ act.Build (codes "x") ∷ [])
 
 abbrev pub lines_of : List Command → List (List ℕ)
-lines_of commands = sum_lines defold_tables 3 7 4 commands (played defold_tables commands fresh)
+lines_of commands = sum_lines defold_tables 3 7 4 commands (played defold_tables commands fresh).lines (played defold_tables commands fresh).state.names

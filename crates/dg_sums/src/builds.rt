@@ -6,6 +6,7 @@ ghost use Rattle.dg_build.specs.Contents.{entries_in};
 ghost use Rattle.dg_play.specs.Seen.{line_of, reply_of};
 ghost use Rattle.dg_sums.specs.Builds.{along_x, entries_built, files_written, sum_along_x, value_built, values_built};
 
+use dg_asks::Answered;
 use dg_base::{Datum, Names};
 use dg_build::targets;
 use dg_kinds_coll::place_in;
@@ -15,7 +16,10 @@ use dg_play::{Line, Reply};
 use std::alloc::{AllocError, Global};
 
 /// The values that the lines build, in order. An answer that isn't good builds none.
-pub(crate) fn values_built(alloc: Global, lines: &[Line]) -> Result<Vec<&Datum>, AllocError>
+pub(crate) fn values_built(
+    alloc: Global,
+    lines: &[Line<Answered>],
+) -> Result<Vec<&Datum>, AllocError>
     ensures { IfOk result (λ v. map (λ d. d.now) v.items ≡ values_built defold_tables (map line_of lines.now)) }
 {
     let mut all = Vec::new(alloc);
@@ -25,7 +29,7 @@ pub(crate) fn values_built(alloc: Global, lines: &[Line]) -> Result<Vec<&Datum>,
     Ok(all)
 }
 
-fn push_built<'a>(all: &mut Vec<&'a Datum>, reply: &'a Reply) -> Result<(), AllocError>
+fn push_built<'a>(all: &mut Vec<&'a Datum>, reply: &'a Reply<Answered>) -> Result<(), AllocError>
     ensures { OnOk result (map (λ d. d.now) all.new.items ≡ map (λ d. d.now) all.old.items ++ option_to_list (value_built defold_tables (reply_of reply.now))) }
 {
     match value_built(reply) {
@@ -37,7 +41,7 @@ fn push_built<'a>(all: &mut Vec<&'a Datum>, reply: &'a Reply) -> Result<(), Allo
     }
 }
 
-fn value_built(reply: &Reply) -> Option<&Datum>
+fn value_built(reply: &Reply<Answered>) -> Option<&Datum>
     ensures { option_copied result ≡ value_built defold_tables (reply_of reply.now) }
 {
     match reply {

@@ -4,6 +4,7 @@ ghost use Rattle.dg_kinds_coll.specs.Defold.{defold_tables};
 ghost use Rattle.dg_play.specs.Seen.{line_of, reply_of};
 ghost use Rattle.dg_sums.specs.Counts.{answers_in, asks_in, deeds_in, is_answered, is_ask, is_deed, is_done, is_of, is_outcome};
 
+use dg_asks::Answered;
 use dg_base::Answer;
 use dg_play::{Line, Reply};
 use dg_script::{Act, Command};
@@ -25,7 +26,7 @@ pub(crate) enum Outcome {
 }
 
 /// How many commands of this sort were done. Each command has one line, in the same order.
-pub(crate) fn deeds_in(deed: Deed, commands: &[Command], lines: &[Line]) -> usize
+pub(crate) fn deeds_in(deed: Deed, commands: &[Command], lines: &[Line<Answered>]) -> usize
     ensures { result ≡ deeds_in deed commands.now (map line_of lines.now) }
 {
     let mut count = 0;
@@ -39,7 +40,7 @@ pub(crate) fn deeds_in(deed: Deed, commands: &[Command], lines: &[Line]) -> usiz
     count
 }
 
-fn is_deed(deed: Deed, command: &Command, line: &Line) -> bool
+fn is_deed(deed: Deed, command: &Command, line: &Line<Answered>) -> bool
     ensures { result ≡ is_deed deed (command.now, line_of line.now) }
 {
     is_of(deed, &command.act) && is_done(&line.reply)
@@ -56,7 +57,7 @@ fn is_of(deed: Deed, act: &Act) -> bool
     }
 }
 
-fn is_done(reply: &Reply) -> bool
+fn is_done(reply: &Reply<Answered>) -> bool
     ensures { result ≡ is_done (reply_of reply.now) }
 {
     match reply {
@@ -88,7 +89,7 @@ fn is_ask(act: &Act) -> bool
 }
 
 /// How many questions have an answer of this sort.
-pub(crate) fn answers_in(outcome: Outcome, lines: &[Line]) -> usize
+pub(crate) fn answers_in(outcome: Outcome, lines: &[Line<Answered>]) -> usize
     ensures { result ≡ answers_in defold_tables outcome (map line_of lines.now) }
 {
     let mut count = 0;
@@ -100,7 +101,7 @@ pub(crate) fn answers_in(outcome: Outcome, lines: &[Line]) -> usize
     count
 }
 
-fn is_answered(outcome: Outcome, reply: &Reply) -> bool
+fn is_answered(outcome: Outcome, reply: &Reply<Answered>) -> bool
     ensures { result ≡ is_answered defold_tables outcome (reply_of reply.now) }
 {
     match reply {

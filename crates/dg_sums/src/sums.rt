@@ -2,15 +2,16 @@
 ghost use Rattle.std.specs.Prelude.{◌≡◌, ◌++◌, map, IfOk, OnOk};
 ghost use Rattle.std.specs.Fmt.{decimal};
 ghost use Rattle.dg_kinds_coll.specs.Defold.{defold_tables};
-ghost use Rattle.dg_play.specs.Seen.{line_of, state_of};
+ghost use Rattle.dg_play.specs.Seen.{line_of};
 ghost use Rattle.dg_sums.specs.Builds.{values_built};
 ghost use Rattle.dg_sums.specs.Sums.{answers_line, built_line, edits_line, files_line, sum_lines};
 
 use crate::builds::{files_written, sum_built, values_built};
 use crate::counts::{Deed, Outcome, answers_in, asks_in, deeds_in};
+use dg_asks::Answered;
 use dg_base::Names;
 use dg_files::Bytes;
-use dg_play::{Line, Played};
+use dg_play::Line;
 use dg_script::Command;
 use itoa::Buffer;
 use sqlite_items::Items;
@@ -30,16 +31,16 @@ pub fn sum_lines(
     nodes: usize,
     arcs: usize,
     commands: &[Command],
-    played: &Played,
+    lines: &[Line<Answered>],
+    names: &Names,
 ) -> Result<Items<Bytes>, AllocError>
-    ensures { IfOk result (λ ls. ls ≡ sum_lines defold_tables files nodes arcs commands.now (record { lines = map line_of played.now.lines.items; state = state_of played.now.state })) }
+    ensures { IfOk result (λ ls. ls ≡ sum_lines defold_tables files nodes arcs commands.now (map line_of lines.now) names.now) }
 {
-    let lines = played.lines.as_slice();
     let mut all = Items::new(alloc);
     all.push(files_line(alloc, files, nodes, arcs)?)?;
     all.push(edits_line(alloc, commands, lines)?)?;
     all.push(answers_line(alloc, lines)?)?;
-    all.push(built_line(alloc, &played.state.names, lines)?)?;
+    all.push(built_line(alloc, names, lines)?)?;
     Ok(all)
 }
 
@@ -54,7 +55,11 @@ fn files_line(alloc: Global, files: u32, nodes: usize, arcs: usize) -> Result<By
     Ok(Bytes::from_vec(line))
 }
 
-fn edits_line(alloc: Global, commands: &[Command], lines: &[Line]) -> Result<Bytes, AllocError>
+fn edits_line(
+    alloc: Global,
+    commands: &[Command],
+    lines: &[Line<Answered>],
+) -> Result<Bytes, AllocError>
     ensures { IfOk result (λ l. l ≡ edits_line commands.now (map line_of lines.now)) }
 {
     let mut line = Vec::new(alloc);
@@ -70,7 +75,7 @@ fn edits_line(alloc: Global, commands: &[Command], lines: &[Line]) -> Result<Byt
     Ok(Bytes::from_vec(line))
 }
 
-fn answers_line(alloc: Global, lines: &[Line]) -> Result<Bytes, AllocError>
+fn answers_line(alloc: Global, lines: &[Line<Answered>]) -> Result<Bytes, AllocError>
     ensures { IfOk result (λ l. l ≡ answers_line defold_tables (map line_of lines.now)) }
 {
     let mut line = Vec::new(alloc);
@@ -81,7 +86,7 @@ fn answers_line(alloc: Global, lines: &[Line]) -> Result<Bytes, AllocError>
     Ok(Bytes::from_vec(line))
 }
 
-fn built_line(alloc: Global, names: &Names, lines: &[Line]) -> Result<Bytes, AllocError>
+fn built_line(alloc: Global, names: &Names, lines: &[Line<Answered>]) -> Result<Bytes, AllocError>
     ensures { IfOk result (λ l. l ≡ built_line names.now (values_built defold_tables (map line_of lines.now))) }
 {
     let values = values_built(alloc, lines)?;

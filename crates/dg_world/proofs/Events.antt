@@ -1,5 +1,5 @@
 -- Each event of a world: what it answers, and what it leaves.
-use Rattle.std.proofs.Common.{◌≡◌, ℕ, ◌==◌, ◌<◌, get_or, Bool, true, false, List, [], ◌∷◌, Option, Some, None, Result, Ok, Err, is_some, is_ok, is_err, if◌then◌else◌, slice_get, length, Contains, refl, sym, ap, ◌∙◌, subst, arith}
+use Rattle.std.proofs.Common.{◌≡◌, ℕ, ◌==◌, ◌<◌, get_or, Bool, true, false, List, [], Option, Some, None, Result, Ok, Err, is_some, is_ok, is_err, if◌then◌else◌, slice_get, length, Contains, refl, sym, subst, arith}
 use Rattle.std.proofs.lemmas.Option.{slice_get_within, slice_get_read, get_or_from_slice_get}
 use Rattle.std.proofs.lemmas.Bool.Decides.{nat_tests}
 use Rattle.std.specs.Option.{option_copied}
@@ -24,7 +24,7 @@ use Rattle.dg_desk.specs.Machine.{Act, is_listed}
 use Rattle.dg_desk.specs.Desks.{Desked, state_of, recorded, IsPublication, IsPublishEnd, IsEviction, IsEvictionBy, is_refused}
 use Rattle.dg_editor.specs.declared.cause.EditCause.{EditCause}
 use Rattle.dg_editor.specs.Machine.{State}
-use Rattle.dg_editor.specs.Seeing.{Editing, IsUnchanged}
+use Rattle.dg_editor.specs.Seeing.{Editing}
 use Rattle.dg_world.specs.declared.event.Outcome.TheVariants as outcome
 use Rattle.dg_world.specs.Worlds.{Worlded}
 use Rattle.dg_world.specs.Steps.{IsSame, IsMet, IsListed, IsEdited, IsDropped, IsDrop, IsPublished, IsPublish}

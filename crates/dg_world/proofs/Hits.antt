@@ -1,5 +1,5 @@
 -- The hits of a walk are known endpoints, and its offer has the values of what it lists.
-use Rattle.std.proofs.Common.{◌≡◌, ℕ, zero, suc, Bool, true, false, cond, List, [], ◌∷◌, ◌++◌, fold, filter, map, Contains, refl, sym, ap, ◌∙◌, subst, inl, inr}
+use Rattle.std.proofs.Common.{◌≡◌, ℕ, zero, suc, Bool, true, false, cond, List, [], ◌∷◌, ◌++◌, fold, Contains, refl, subst, inl, inr}
 use Rattle.std.proofs.lemmas.List.Elements.{Contains-push_cases}
 use Rattle.dg_base.specs.declared.ids.Endpoint.{Endpoint}
 use Rattle.dg_base.specs.Order.{is_end_among}

@@ -1,12 +1,11 @@
 -- What each event leaves is a world again.
-use Rattle.std.proofs.Common.{◌≡◌, ℕ, zero, suc, ◌+◌, ◌==◌, ◌⊎◌, ◌<◌, Bool, true, false, cond, List, [], ◌∷◌, ◌++◌, Option, Some, None, filter, length, set, slice_get, get_or, Contains, refl, sym, ap, ◌∙◌, subst, inl, inr, arith}
+use Rattle.std.proofs.Common.{◌≡◌, ℕ, zero, suc, ◌+◌, ◌⊎◌, false, cond, List, [], ◌∷◌, ◌++◌, Option, Some, None, filter, length, set, slice_get, get_or, Contains, refl, sym, ap, ◌∙◌, subst, inl, inr, arith}
 use Rattle.std.proofs.lemmas.List.{length-append, length-set, get_or-set_same, get_or-set_other}
-use Rattle.std.proofs.lemmas.List.Elements.{Contains-push, Contains-push_cases, Contains-append_left, filter-append}
+use Rattle.std.proofs.lemmas.List.Elements.{Contains-push_cases, Contains-append_left, filter-append}
 use Rattle.std.proofs.lemmas.Bool.{cases_eq}
 use Rattle.std.proofs.lemmas.Option.{slice_get_within, get_or_from_slice_get}
 use Rattle.dg_base.specs.declared.ids.Endpoint.{Endpoint}
 use Rattle.dg_base.specs.Tables.{Tables}
-use Rattle.dg_cache.specs.declared.entry.Entry.{Entry}
 use Rattle.dg_laws.proofs.Members.{Contains-none, Contains-cases}
 use Rattle.dg_line.specs.Revisions.{Seen}
 use Rattle.dg_line.specs.Links.{IsLink, Linked}
@@ -16,14 +15,14 @@ use Rattle.dg_desk.specs.declared.event.What.TheVariants as what
 use Rattle.dg_desk.specs.declared.event.Followed.{Followed}
 use Rattle.dg_desk.specs.declared.event.Followed.TheVariants as followed
 use Rattle.dg_desk.specs.declared.event.Published.{Published}
-use Rattle.dg_desk.specs.Machine.{Act, Event, State, at_start, at_next, after, after_follow, after_all}
+use Rattle.dg_desk.specs.Machine.{Act, Event, State, at_start, after, after_follow}
 use Rattle.dg_desk.specs.Coherent.{IsRight}
 use Rattle.dg_desk.specs.Desks.{Desked, state_of, recorded, event_of, is_step}
 use Rattle.dg_desk.proofs.Playing.{after_all-push}
 use Rattle.dg_editor.specs.Seeing.{Editing, IsUnchanged}
 use Rattle.dg_world.specs.Worlds.{Worlded, pin_at, if_live}
 use Rattle.dg_world.specs.Steps.{IsMet}
-use Rattle.dg_world.specs.Laws.{HasSources, AreSourced, IsWorld}
+use Rattle.dg_world.specs.Laws.{HasSources, IsWorld}
 use Rattle.dg_world.proofs.Sources.{sources-later, sourced-push}
 
 some_is : {A : Type 0} (x y : A) → Some x ≡ Some y → x ≡ y

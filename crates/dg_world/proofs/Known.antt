@@ -1,5 +1,5 @@
 -- What the desk knows of a revision, and what an evaluation with it finds.
-use Rattle.std.proofs.Common.{◌≡◌, ℕ, ◌+◌, ◌==◌, Bool, true, false, cond, List, [], ◌∷◌, Contains, refl, sym, ap, ◌∙◌, subst, arith}
+use Rattle.std.proofs.Common.{◌≡◌, ℕ, ◌==◌, Bool, true, false, cond, List, [], Contains, refl, sym, ap, ◌∙◌, subst, arith}
 use Rattle.std.proofs.lemmas.Bool.Decides.{nat_tests}
 use Rattle.dg_base.specs.declared.ids.Endpoint.{Endpoint}
 use Rattle.dg_base.specs.Tables.{Tables}
@@ -9,12 +9,11 @@ use Rattle.dg_cache.specs.declared.entry.Entry.{Entry}
 use Rattle.dg_cache.specs.Entries.{ends_of, in_order}
 use Rattle.dg_line.specs.Revisions.{Seen}
 use Rattle.dg_line.specs.Tickets.{Pin}
-use Rattle.dg_offer.specs.Offers.{Offered, AreValues}
-use Rattle.dg_desk.specs.Machine.{State}
+use Rattle.dg_offer.specs.Offers.{AreValues}
 use Rattle.dg_desk.specs.Desks.{Desked, IsDesk, state_of, snapshot_of}
 use Rattle.dg_desk.proofs.Caching.{in_order-from}
 use Rattle.dg_eval.specs.Contexts.{Evaluating, opened_at, walked, offered}
-use Rattle.dg_world.specs.Steps.{known_of, walk_of, valued, offer_of}
+use Rattle.dg_world.specs.Steps.{given_of, known_of, valued, offer_of}
 use Rattle.dg_world.specs.Laws.{IsSourced}
 use Rattle.dg_world.proofs.Hits.{valued-cached}
 use Rattle.dg_world.proofs.Listed.{now-by-number}
@@ -43,20 +42,17 @@ module _ {M : Type 0} (see : Seen → Seen) (t : Tables) where
           let here = now-by-number see t (state_of see d) d.history desk.coherent p there (sym (equal-from (see (state_of see d).now.revision).number (see p.revision).number n)) in
           differ-from (state_of see d).now.index p.index i (ap (λ (q : Pin Seen M). q.index) (sym here))
 
-  -- what is known was published
-  pub known-sourced : (d : Desked Seen M) (p : Pin Seen M) (e : Endpoint) → IsDesk see t d → Contains (state_of see d).list p → Contains (ends_of (known_of see d p)) e →
+  -- what is given for a ticket was published
+  pub given-sourced : (d : Desked Seen M) (p : Pin Seen M) (e : Endpoint) → IsDesk see t d → ((state_of see d).now.index ≡ p.index → (state_of see d).now.revision ≡ p.revision) → Contains (ends_of (given_of see d p)) e →
       IsSourced see (see p.revision) d.history e
-  known-sourced d p e desk there c = by_case ((see (state_of see d).now.revision).number == (see p.revision).number) refl c
+  given-sourced d p e desk same c = by_case ((state_of see d).now.index == p.index) refl c
     where
-      by_case : (b : Bool) → ((see (state_of see d).now.revision).number == (see p.revision).number) ≡ b → Contains (ends_of (cond b (in_order d.entries) [])) e →
-          IsSourced see (see p.revision) d.history e
-      by_case false n h = Contains-none e h
-      by_case true n h =
-          let here = now-by-number see t (state_of see d) d.history desk.coherent p there (sym (equal-from (see (state_of see d).now.revision).number (see p.revision).number n)) in
-          let found = Contains-from_map (λ (x : Entry). x.at) (in_order d.entries) e h in
-          let among = subst (λ (es : List Entry). Contains es found.0) desk.entries (in_order-from d.entries found.0 found.1) in
-          subst (λ (q : Pin Seen M). IsSourced see (see q.revision) d.history e) (sym here)
-          (record { entry = found.0; at = found.2; published = desk.coherent.sources found.0 among })
+      by_case : (b : Bool) → ((state_of see d).now.index == p.index) ≡ b → Contains (ends_of (cond b (in_order (state_of see d).entries) [])) e → IsSourced see (see p.revision) d.history e
+      by_case false i h = Contains-none e h
+      by_case true i h =
+          let found = Contains-from_map (λ (x : Entry). x.at) (in_order (state_of see d).entries) e h in
+          subst (λ (r : Seen). IsSourced see (see r) d.history e) (same (equal-from (state_of see d).now.index p.index i))
+          (record { entry = found.0; at = found.2; published = desk.coherent.sources found.0 (in_order-from (state_of see d).entries found.0 found.1) })
 
 -- a context is opened where its ticket and what it knows are these
 pub opened-is : {M : Type 0} (c : Evaluating Seen M) (p q : Pin Seen M) (es fs : List Entry) → c ≡ opened_at p es → p ≡ q → es ≡ fs → c ≡ opened_at q fs

@@ -21,10 +21,10 @@ use Rattle.dg_desk.specs.declared.event.Followed.TheVariants as followed
 use Rattle.dg_desk.specs.declared.event.Published.{Published}
 use Rattle.dg_desk.specs.declared.event.PublishEnd.{PublishEnd}
 use Rattle.dg_desk.specs.declared.event.PublishEnd.TheVariants as publish_end
-use Rattle.dg_desk.specs.Desks.{Desked, state_of, recorded, IsPublication, IsEviction}
+use Rattle.dg_desk.specs.Desks.{Desked, state_of, recorded, snapshot_of, IsPublication, IsEviction}
 use Rattle.dg_editor.specs.declared.cause.EditCause.{EditCause}
 use Rattle.dg_editor.specs.Machine.{State, edited, made_by, undo_of, redo_of}
-use Rattle.dg_editor.specs.Seeing.{Editing, IsUnchanged, state_of as editor_of}
+use Rattle.dg_editor.specs.Seeing.{IsUnchanged, state_of as editor_of}
 use Rattle.dg_world.specs.declared.event.Event.{Event}
 use Rattle.dg_world.specs.declared.event.Event.TheVariants as event
 use Rattle.dg_world.specs.declared.event.Outcome.{Outcome}
@@ -98,6 +98,10 @@ IsDrop w v n _ _ = ⊥
 -- what a desk knows of a revision: its entries, where it is the desk's own, and else nothing
 abbrev pub known_of : {M : Type 0} → (Seen → Seen) → Desked Seen M → Pin Seen M → List Entry
 known_of see d p = cond ((see (state_of see d).now.revision).number == (see p.revision).number) (in_order d.entries) []
+
+-- what it gives for a ticket goes by the index. Of the tickets that it lists that is the same
+abbrev pub given_of : {M : Type 0} → (Seen → Seen) → Desked Seen M → Pin Seen M → List Entry
+given_of see d p = snapshot_of (state_of see d) p.index
 
 -- the walk of an endpoint where this is known
 abbrev pub walk_of : Tables → Graph → List Entry → Endpoint → Evaluated

@@ -1,5 +1,5 @@
 -- What contracts see of a world.
-use Rattle.std.specs.Prelude.{ℕ, List, Option, Some, None, slice_get, refl}
+use Rattle.std.specs.Prelude.{ℕ, List, [], Option, Some, None, slice_get, refl}
 use Rattle.std.specs.Coded.{Coded, code_by, coded×, coded_ℕ, coded_list, coded_option}
 use Rattle.dg_line.specs.Revisions.{Seen, seen_code}
 use Rattle.dg_line.specs.Tickets.{Pin, pin_code}
@@ -15,6 +15,16 @@ pub record Worlded (N M : Type 0) : Type 0 where
   pub pins : List (Option (Pin Seen M))
   pub offers : List (Offered Seen M)
   pub made : ℕ
+
+-- nothing happened yet: the desk is at the editor's revision, with a cache for so many entries
+abbrev pub begun : {N M : Type 0} → ℕ → Editing N M → Worlded N M
+begun capacity e = record {
+  editor = e;
+  desk = record { opened = e.here; capacity = capacity; entries = []; history = []; pass = 0 };
+  pins = [];
+  offers = [];
+  made = 0;
+}
 
 -- the ticket of a live pin
 abbrev pub if_live : {P : Type 0} → Option (Option P) → Option P

@@ -10,7 +10,7 @@ ghost use Rattle.dg_desk.specs.declared.event.What.TheVariants as what;
 ghost use Rattle.dg_desk.specs.Coherent.{IsRight};
 ghost use Rattle.dg_desk.specs.Desks.{is_step, recorded, state_of};
 ghost use Rattle.dg_world.specs.Laws.{HasSources};
-ghost use Rattle.dg_world.specs.Steps.{IsMet, known_of, offer_of, walk_of};
+ghost use Rattle.dg_world.specs.Steps.{IsMet, given_of, known_of, offer_of, walk_of};
 
 use dg_base::{Endpoint, Held, Schema, Steps};
 use dg_desk::{Desk, Followed};
@@ -43,23 +43,91 @@ pub(crate) fn follow<S: Schema, N: Line<Revision<S>> + Drop>(
 
 /// What an evaluation found: the value, what it offers, and how many productions it took.
 #[derive(Drop)]
-pub(crate) struct Found<M: Mark> {
+pub struct Found<M: Mark> {
     pub held: Held,
     pub offer: Offer<M>,
     pub made: u64,
 }
 
-/// Evaluates an endpoint at the revision of a ticket, with what the desk knows of it.
-pub(crate) fn evaluated<S: Schema, N: Line<Revision<S>> + Drop, L: Ledger>(
+/// That the desk's revision is that of a ticket with its index, for proofs.
+fn agree<S: Schema, N: Line<Revision<S>> + Drop>(
+    line: &N,
+    desk: &Desk<N::Mark>,
+    ticket: &Ticket<N::Mark>,
+)
+    requires line { (p : Pin Seen N.Mark) → Contains (state_of N.Mark.seen desk.now).list p → N.is_of line.now p }
+    requires ticket { N.is_of line.now ticket.now }
+    ensures { (state_of N.Mark.seen desk.now).now.index ≡ ticket.now.index → (state_of N.Mark.seen desk.now).now.revision ≡ ticket.now.revision }
+{
+    let now = desk.now();
+    if now.index() == ticket.index() {
+        line.agrees(now, ticket);
+    }
+}
+
+/// What the desk gives for a ticket, for proofs.
+fn gives<S: Schema, N: Line<Revision<S>> + Drop>(
+    line: &N,
+    desk: &Desk<N::Mark>,
+    ticket: &Ticket<N::Mark>,
+)
+    requires line { (p : Pin Seen N.Mark) → Contains (state_of N.Mark.seen desk.now).list p → N.is_of line.now p }
+    requires ticket { N.is_of line.now ticket.now }
+    ensures same { (state_of N.Mark.seen desk.now).now.index ≡ ticket.now.index → (state_of N.Mark.seen desk.now).now.revision ≡ ticket.now.revision }
+    ensures listed { Contains (state_of N.Mark.seen desk.now).list ticket.now → given_of N.Mark.seen desk.now ticket.now ≡ known_of N.Mark.seen desk.now ticket.now }
+{
+    desk.is_desk();
+    agree::<S, N>(line, desk, ticket);
+}
+
+/// Evaluates an endpoint at the revision of a ticket, with what the desk knows of it. The desk and the ticket are of the
+/// line. Where the desk lists the ticket, what it knows goes by the revision's number.
+pub fn evaluated<S: Schema, N: Line<Revision<S>> + Drop, L: Ledger>(
     alloc: Global,
-    editor: &Editor<S, N>,
+    line: &N,
     desk: &Desk<N::Mark>,
     ticket: &Ticket<N::Mark>,
     number: u32,
     at: Endpoint,
     steps: &mut Steps<L>,
 ) -> Result<Found<N::Mark>, AllocError>
-    requires line { (p : Pin Seen N.Mark) → Contains (state_of N.Mark.seen desk.now).list p → N.is_of editor.now.line p }
+    requires tables { N.Mark.tables ≡ S.tables }
+    requires seen { (r : Seen) → N.Mark.seen r ≡ r }
+    requires line { (p : Pin Seen N.Mark) → Contains (state_of N.Mark.seen desk.now).list p → N.is_of line.now p }
+    requires ticket { N.is_of line.now ticket.now }
+    ensures held { IfOk result (λ f. f.held ≡ value_at S.tables ticket.now.revision.graph at) }
+    ensures offer { IfOk result (λ f. f.offer ≡ offer_of S.tables number ticket.now at (walk_of S.tables ticket.now.revision.graph (given_of N.Mark.seen desk.now ticket.now) at)) }
+    ensures sources { IfOk result (λ f. HasSources N.Mark.seen desk.now.history f.offer) }
+    ensures right { IfOk result (λ f. IsRight N.Mark.seen S.tables f.offer) }
+    ensures made { IfOk result (λ f. f.made ≡ productions S.tables ticket.now.revision.graph (walk_of S.tables ticket.now.revision.graph (given_of N.Mark.seen desk.now ticket.now) at).listed) }
+    ensures steps { OnOk result (steps.new ≡ steps.old + productions S.tables ticket.now.revision.graph (walk_of S.tables ticket.now.revision.graph (given_of N.Mark.seen desk.now ticket.now) at).listed) }
+    ensures most { steps.new ≤ steps.old + productions S.tables ticket.now.revision.graph (walk_of S.tables ticket.now.revision.graph (given_of N.Mark.seen desk.now ticket.now) at).listed }
+    ensures listed { Contains (state_of N.Mark.seen desk.now).list ticket.now → given_of N.Mark.seen desk.now ticket.now ≡ known_of N.Mark.seen desk.now ticket.now }
+{
+    desk.is_desk();
+    gives::<S, N>(line, desk, ticket);
+    let known = desk.snapshot(line, ticket)?;
+    let mut context = Context::<S, N::Mark>::open(alloc, ticket.share()?, known);
+    let held = context.evaluate(at, steps)?;
+    let made = context.made();
+    let offer = context.offer(number, at);
+    offer.is_offer();
+    Ok(Found { held, offer, made })
+}
+
+/// Evaluates an endpoint at the revision of a ticket that the desk lists, with what the desk knows of it.
+pub(crate) fn evaluated_listed<S: Schema, N: Line<Revision<S>> + Drop, L: Ledger>(
+    alloc: Global,
+    line: &N,
+    desk: &Desk<N::Mark>,
+    ticket: &Ticket<N::Mark>,
+    number: u32,
+    at: Endpoint,
+    steps: &mut Steps<L>,
+) -> Result<Found<N::Mark>, AllocError>
+    requires tables { N.Mark.tables ≡ S.tables }
+    requires seen { (r : Seen) → N.Mark.seen r ≡ r }
+    requires line { (p : Pin Seen N.Mark) → Contains (state_of N.Mark.seen desk.now).list p → N.is_of line.now p }
     requires ticket { Contains (state_of N.Mark.seen desk.now).list ticket.now }
     ensures held { IfOk result (λ f. f.held ≡ value_at S.tables ticket.now.revision.graph at) }
     ensures offer { IfOk result (λ f. f.offer ≡ offer_of S.tables number ticket.now at (walk_of S.tables ticket.now.revision.graph (known_of N.Mark.seen desk.now ticket.now) at)) }
@@ -69,13 +137,5 @@ pub(crate) fn evaluated<S: Schema, N: Line<Revision<S>> + Drop, L: Ledger>(
     ensures steps { OnOk result (steps.new ≡ steps.old + productions S.tables ticket.now.revision.graph (walk_of S.tables ticket.now.revision.graph (known_of N.Mark.seen desk.now ticket.now) at).listed) }
     ensures most { steps.new ≤ steps.old + productions S.tables ticket.now.revision.graph (walk_of S.tables ticket.now.revision.graph (known_of N.Mark.seen desk.now ticket.now) at).listed }
 {
-    editor.is_editor();
-    desk.is_desk();
-    let known = desk.snapshot(editor.line(), ticket)?;
-    let mut context = Context::<S, N::Mark>::open(alloc, ticket.share()?, known);
-    let held = context.evaluate(at, steps)?;
-    let made = context.made();
-    let offer = context.offer(number, at);
-    offer.is_offer();
-    Ok(Found { held, offer, made })
+    evaluated::<S, N, L>(alloc, line, desk, ticket, number, at, steps)
 }

@@ -6,6 +6,7 @@ use crate::{Event, Outcome, World};
 use dg_base::{Answer, Datum, Endpoint, Kind, Label, NodeId, NodeRef, Refusal, Step, Steps};
 use dg_cache::{EvictEnd, Evicted};
 use dg_desk::{Followed, PublishEnd};
+use dg_editor::Editor;
 use dg_kinds_go::GoKinds;
 use dg_line::{OwnLine, Revision};
 use sqlite_items::Items;
@@ -210,8 +211,8 @@ fn done<L: Ledger>(
 fn begin(alloc: Global, capacity: u32) -> Result<Option<TestWorld>, AllocError>
     requires { 1 ≤ capacity }
 {
-    match World::open(alloc, OwnLine::new(alloc), &[], capacity) {
-        Ok((world, _)) => Ok(Some(world)),
+    match Editor::open(alloc, OwnLine::new(alloc), &[]) {
+        Ok((editor, _)) => World::open(alloc, &mut Some(editor), capacity),
         Err(Refusal::Because(_)) => Ok(None),
         Err(Refusal::NoMemory) => Err(AllocError),
     }

@@ -1,21 +1,19 @@
 //! The world.
-ghost use Rattle.std.specs.Prelude.{◌≡◌, ◌≢◌, ◌≤◌, ◌<◌, ◌+◌, [], IfOk, OnOk, length, option_copied, option_map, slice_get};
-ghost use Rattle.dg_base.specs.Graph.{empty};
-ghost use Rattle.dg_base.specs.Refusal.{Gives};
+ghost use Rattle.std.specs.Prelude.{◌≡◌, ◌≢◌, ◌≤◌, ◌<◌, ◌+◌, [], None, IfOk, OnOk, length, option_copied, option_map, slice_get};
 ghost use Rattle.dg_base.specs.Transact.{applied};
 ghost use Rattle.dg_line.specs.Tickets.{Pin};
-ghost use Rattle.dg_line.specs.Revisions.{Seen};
 ghost use Rattle.dg_desk.specs.Desks.{Desked, IsDesk, state_of};
-ghost use Rattle.dg_editor.specs.Machine.{edited, made_by, opened, redo_of, undo_of};
+ghost use Rattle.dg_editor.specs.Machine.{edited, made_by, redo_of, undo_of};
 ghost use Rattle.dg_editor.specs.Seeing.{state_of as editor_of};
 ghost use Rattle.dg_world.specs.declared.event.Outcome.TheVariants as outcome;
 ghost use Rattle.dg_world.specs.Laws.{IsWorld};
 ghost use Rattle.dg_world.specs.Steps.{IsDrop, IsEdited, IsEvaluated, IsEvict, IsPin, IsPublish, IsStep, productions_at, productions_of};
-ghost use Rattle.dg_world.specs.Worlds.{pin_at};
+ghost use Rattle.dg_world.specs.Worlds.{begun, pin_at};
 
-use crate::acts::{evaluated, follow};
+use crate::acts::{evaluated_listed, follow};
 use crate::{Event, Outcome};
-use dg_base::{Endpoint, NodeId, Refusal, RefusedStep, Schema, Step, Steps};
+use dg_base::{Endpoint, Schema, Step, Steps};
+use dg_cache::Evicted;
 use dg_desk::Desk;
 use dg_editor::{Commit, Editor};
 use dg_line::{Line, Revision, Ticket};
@@ -25,12 +23,18 @@ use std::alloc::{AllocError, Global};
 use std::marker::Model;
 use std::sync::ledger::Ledger;
 
+/// What the world holds whole.
+#[derive(Drop)]
+struct Kept<X> {
+    it: X,
+}
+
 /// An editor, the desk that follows it, pins and offers. Contracts see each of them, and the number of productions
 /// that were made.
 #[derive(Drop)]
 pub struct World<S: Schema, N: Line<Revision<S>> + Drop> {
     alloc: Global,
-    editor: Editor<S, N>,
+    editor: Kept<Editor<S, N>>,
     desk: Desk<N::Mark>,
     pins: Vec<Option<Ticket<N::Mark>>>,
     offers: Vec<Offer<N::Mark>>,
@@ -45,39 +49,37 @@ impl<S: Schema, N: Line<Revision<S>> + Drop> Model for World<S, N> {
 
     ghost coded = { world_code N.code N.Mark.code };
 
-    ghost view = { λ w. record { editor = w.editor; desk = w.desk; pins = w.pins.items; offers = w.offers.items; made = w.made } };
+    ghost view = { λ w. record { editor = w.editor.it; desk = w.desk; pins = w.pins.items; offers = w.offers.items; made = w.made } };
 
-    ghost invariant = { λ w. IsWorld S.tables N.Mark.seen (N.is_of w.editor.line) (record { editor = w.editor; desk = w.desk; pins = w.pins.items; offers = w.offers.items; made = w.made }) };
+    ghost invariant = { λ w. IsWorld S.tables N.Mark.seen (N.is_of w.editor.it.line) (record { editor = w.editor.it; desk = w.desk; pins = w.pins.items; offers = w.offers.items; made = w.made }) };
 }
 
 impl<S: Schema, N: Line<Revision<S>> + Drop> World<S, N> {
-    /// A world whose first revision has the graph of these steps, with a cache for so many entries, and the nodes
-    /// that the steps made. It is refused as the steps are.
+    /// The world of the editor in a place, which is empty then, with a cache for so many entries. None where the place
+    /// was empty.
     pub fn open(
         alloc: Global,
-        line: N,
-        steps: &[Step],
+        place: &mut Option<Editor<S, N>>,
         capacity: u32,
-    ) -> Result<(World<S, N>, Items<NodeId>), Refusal<RefusedStep>>
-        requires tables { N.Mark.tables ≡ S.tables }
-        requires seen { (r : Seen) → N.Mark.seen r ≡ r }
+    ) -> Result<Option<World<S, N>>, AllocError>
         requires capacity { 1 ≤ capacity }
-        ensures opened { Gives (λ r. editor_of r.0.editor) result (opened S.tables steps.now) }
-        ensures made { IfOk result (λ r. made_by (applied S.tables empty 1 steps.now) ≡ r.1) }
-        ensures world { IfOk result (λ r. r.0 ≡ record { editor = r.0.editor; desk = record { opened = r.0.editor.here; capacity = capacity; entries = []; history = []; pass = 0 }; pins = []; offers = []; made = 0 }) }
+        ensures world { IfOk result (λ w. w ≡ option_map (begun capacity) place.old) }
+        ensures taken { place.new ≡ None }
     {
-        let (editor, made) = Editor::open(alloc, line, steps)?;
+        let Some(editor) = place.take() else {
+            return Ok(None);
+        };
         editor.is_editor();
         let desk = Desk::open(alloc, editor.ticket().share()?, capacity)?;
         let world = World {
             alloc,
-            editor,
+            editor: Kept { it: editor },
             desk,
             pins: Vec::new(alloc),
             offers: Vec::new(alloc),
             made: 0,
         };
-        Ok((world, made))
+        Ok(Some(world))
     }
 
     /// What holds of a world at every moment, for proofs. It does nothing.
@@ -85,7 +87,7 @@ impl<S: Schema, N: Line<Revision<S>> + Drop> World<S, N> {
         ensures world { IsWorld S.tables N.Mark.seen (N.is_of self.now.editor.line) self.now }
         ensures desk { IsDesk N.Mark.seen S.tables self.now.desk }
     {
-        self.editor.is_editor();
+        self.editor.it.is_editor();
         self.desk.is_desk();
     }
 
@@ -93,14 +95,14 @@ impl<S: Schema, N: Line<Revision<S>> + Drop> World<S, N> {
     pub fn now(&self) -> &Ticket<N::Mark>
         ensures { result.now ≡ self.now.editor.here }
     {
-        self.editor.ticket()
+        self.editor.it.ticket()
     }
 
     /// The line that holds the revisions.
     pub fn line(&self) -> &N
         ensures { result.now ≡ self.now.editor.line }
     {
-        self.editor.line()
+        self.editor.it.line()
     }
 
     /// The shared cache.
@@ -146,31 +148,33 @@ impl<S: Schema, N: Line<Revision<S>> + Drop> World<S, N> {
             Event::Pin => self.pin(),
             Event::Evaluate { pin, endpoint } => self.evaluate(*pin, *endpoint, steps),
             Event::Publish { offer } => self.publish(*offer),
-            Event::Evict { most } => Outcome::Evicted(self.desk.evict(*most)),
+            Event::Evict { most } => Outcome::Evicted(self.evict(*most)),
             Event::Drop { pin } => self.drop_pin(*pin),
         }
     }
 
-    fn edit(&mut self, all: &[Step]) -> Outcome
+    /// The event of an edit by these steps.
+    pub fn edit(&mut self, all: &[Step]) -> Outcome
         ensures { IsEdited S.tables N.Mark.seen self.old self.new (edited S.tables (editor_of self.old.editor) all.now)
             (made_by (applied S.tables self.old.editor.here.revision.graph self.old.editor.here.revision.next all.now)) result }
     {
-        match self.editor.transact(all) {
+        match self.editor.it.transact(all) {
             Ok(commit) => {
                 let Commit { link, made } = commit;
-                let followed = follow(&self.editor, &mut self.desk, link);
+                let followed = follow(&self.editor.it, &mut self.desk, link);
                 Outcome::Edited { made, followed }
             }
             Err(refusal) => Outcome::Refused(refusal),
         }
     }
 
-    fn undo(&mut self) -> Outcome
+    /// The event of an undo.
+    pub fn undo(&mut self) -> Outcome
         ensures { IsEdited S.tables N.Mark.seen self.old self.new (undo_of S.tables (editor_of self.old.editor)) [] result }
     {
-        match self.editor.undo() {
+        match self.editor.it.undo() {
             Ok(link) => {
-                let followed = follow(&self.editor, &mut self.desk, link);
+                let followed = follow(&self.editor.it, &mut self.desk, link);
                 let made = Items::from_vec(Vec::new(self.alloc));
                 Outcome::Edited { made, followed }
             }
@@ -178,12 +182,13 @@ impl<S: Schema, N: Line<Revision<S>> + Drop> World<S, N> {
         }
     }
 
-    fn redo(&mut self) -> Outcome
+    /// The event of a redo.
+    pub fn redo(&mut self) -> Outcome
         ensures { IsEdited S.tables N.Mark.seen self.old self.new (redo_of S.tables (editor_of self.old.editor)) [] result }
     {
-        match self.editor.redo() {
+        match self.editor.it.redo() {
             Ok(link) => {
-                let followed = follow(&self.editor, &mut self.desk, link);
+                let followed = follow(&self.editor.it, &mut self.desk, link);
                 let made = Items::from_vec(Vec::new(self.alloc));
                 Outcome::Edited { made, followed }
             }
@@ -191,14 +196,15 @@ impl<S: Schema, N: Line<Revision<S>> + Drop> World<S, N> {
         }
     }
 
-    fn pin(&mut self) -> Outcome
+    /// The event of a pin at the current revision.
+    pub fn pin(&mut self) -> Outcome
         ensures { IsPin self.old self.new result }
     {
         self.desk.is_desk();
         let Ok(number) = u32::try_from(self.pins.len()) else {
             return Outcome::NoMemory;
         };
-        let Ok(ticket) = self.editor.ticket().share() else {
+        let Ok(ticket) = self.editor.it.ticket().share() else {
             return Outcome::NoMemory;
         };
         if self.pins.push(Some(ticket)).is_err() {
@@ -207,7 +213,8 @@ impl<S: Schema, N: Line<Revision<S>> + Drop> World<S, N> {
         Outcome::Pinned(number)
     }
 
-    fn drop_pin(&mut self, pin: u32) -> Outcome
+    /// The event of the drop of a pin.
+    pub fn drop_pin(&mut self, pin: u32) -> Outcome
         ensures { IsDrop self.old self.new pin (pin_at self.old.pins pin) result }
     {
         if self.pinned(pin).is_none() {
@@ -217,7 +224,8 @@ impl<S: Schema, N: Line<Revision<S>> + Drop> World<S, N> {
         Outcome::Dropped
     }
 
-    fn evaluate<L: Ledger>(&mut self, pin: u32, at: Endpoint, steps: &mut Steps<L>) -> Outcome
+    /// The event of an evaluation at a pin.
+    pub fn evaluate<L: Ledger>(&mut self, pin: u32, at: Endpoint, steps: &mut Steps<L>) -> Outcome
         ensures step { IsEvaluated S.tables N.Mark.seen self.old self.new (pin_at self.old.pins pin) at result }
         ensures steps { result ≢ outcome.NoMemory → steps.new ≡ steps.old + productions_at S.tables N.Mark.seen self.old (pin_at self.old.pins pin) at }
         ensures most { steps.new ≤ steps.old + productions_at S.tables N.Mark.seen self.old (pin_at self.old.pins pin) at }
@@ -228,9 +236,10 @@ impl<S: Schema, N: Line<Revision<S>> + Drop> World<S, N> {
         let Ok(number) = u32::try_from(self.offers.len()) else {
             return Outcome::NoMemory;
         };
-        let found = evaluated(
+        self.editor.it.is_editor();
+        let found = evaluated_listed(
             self.alloc,
-            &self.editor,
+            self.editor.it.line(),
             &self.desk,
             ticket,
             number,
@@ -253,7 +262,8 @@ impl<S: Schema, N: Line<Revision<S>> + Drop> World<S, N> {
         }
     }
 
-    fn publish(&mut self, offer: u32) -> Outcome
+    /// The event of a publication of an offer.
+    pub fn publish(&mut self, offer: u32) -> Outcome
         ensures { IsPublish N.Mark.seen self.old self.new (slice_get self.old.offers offer) result }
     {
         self.desk.is_desk();
@@ -261,8 +271,15 @@ impl<S: Schema, N: Line<Revision<S>> + Drop> World<S, N> {
             return Outcome::NoOffer;
         };
         match offer.copy(self.alloc) {
-            Ok(copy) => Outcome::Published(self.desk.publish(self.editor.line(), copy)),
+            Ok(copy) => Outcome::Published(self.desk.publish(self.editor.it.line(), copy)),
             Err(_) => Outcome::NoMemory,
         }
+    }
+
+    /// The event of an eviction of so many entries.
+    pub fn evict(&mut self, most: u32) -> Evicted
+        ensures { IsEvict N.Mark.seen self.old self.new most (outcome.Evicted result) }
+    {
+        self.desk.evict(most)
     }
 }

@@ -1,6 +1,6 @@
-use Rattle.std.proofs.Common.{le_trans}
+use Rattle.std.proofs.Common.{◌∙◌, le_trans}
 use Rattle.dg_deeds.specs.Deeds.{IsBegun}
-use Rattle.dg_deeds.proofs.Parts.{IfErr-handed, IsBegun-at, tree_after-take, text_after-take}
+use Rattle.dg_deeds.proofs.Parts.{IfErr-handed, IsBegun-at, line-at, tree_after-take, text_after-take}
 use Rattle.dg_deeds.proofs.Sinks.{stays_sound}
 use Rattle.dg_deeds.proofs.doing.do_all.Goals as goal
 
@@ -27,6 +27,8 @@ loop-deed-preserved g c =
       text =
           text_after-take c.args.deeds.now c.loop-deed.deed-index c.deed-item.result (bytes c.args.out.now) (bytes c.loop-deed.out) (bytes c.do_one.new.out)
           c.deed-item.is c.loop-deed-test.true c.loop-deed.invariant.text c.in_ok-do_one.ensures.text;
+      untouched = λ are.
+          c.in_ok-do_one.ensures.untouched (line-at c.args.deeds.now c.loop-deed.deed-index c.deed-item.result are c.deed-item.is c.loop-deed-test.true) ∙ c.loop-deed.invariant.untouched are;
       files_never_fall = le_trans c.loop-deed.invariant.files_never_fall c.in_ok-do_one.ensures.files_never_fall;
       out_never_falls = le_trans c.loop-deed.invariant.out_never_falls c.in_ok-do_one.ensures.out_never_falls;
       files_sound =
@@ -36,3 +38,7 @@ loop-deed-preserved g c =
           stays_sound g.S.Sink.is_sound g.S.Sink.faults c.args.out.now c.loop-deed.out c.do_one.new.out
           c.loop-deed.invariant.out_sound c.in_ok-do_one.ensures.out_sound;
     }
+
+pub returns-in_err-do_one-clause-untouched : goal.returns-in_err-do_one-clause-untouched
+returns-in_err-do_one-clause-untouched g c = λ are.
+    c.in_err-do_one.ensures.untouched (line-at c.args.deeds.now c.loop-deed.deed-index c.deed-item.result are c.deed-item.is c.loop-deed-test.true) ∙ c.loop-deed.invariant.untouched are

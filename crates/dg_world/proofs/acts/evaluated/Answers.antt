@@ -1,32 +1,28 @@
-use Rattle.std.proofs.Common.{◌≡◌, ◌≤◌, ◌+◌, List, Contains, refl, sym, ap, ◌∙◌, subst, arith}
-use Rattle.dg_base.specs.declared.ids.Endpoint.{Endpoint}
-use Rattle.dg_base.specs.Evaluation.{Evaluated}
-use Rattle.dg_base.specs.Tables.{Tables}
+use Rattle.std.proofs.Common.{◌≡◌, ◌≤◌, ◌+◌, sym, ap, ◌∙◌, subst, arith}
 use Rattle.dg_base.specs.Value.{value_at}
-use Rattle.dg_cache.specs.declared.entry.Entry.{Entry}
 use Rattle.dg_cache.specs.Entries.{ends_of}
 use Rattle.dg_line.specs.Revisions.{Seen}
 use Rattle.dg_line.specs.Tickets.{Pin}
 use Rattle.dg_offer.specs.Offers.{Offered}
-use Rattle.dg_eval.specs.Contexts.{Evaluating, opened_at, walked, walked_on, productions_due}
-use Rattle.dg_world.specs.Steps.{known_of, walk_of, offer_of}
+use Rattle.dg_eval.specs.Contexts.{Evaluating, opened_at, walked_on, productions_due}
+use Rattle.dg_world.specs.Steps.{given_of, walk_of, offer_of}
 use Rattle.dg_world.specs.Laws.{HasSources}
 use Rattle.dg_world.proofs.Hits.{hits-known}
-use Rattle.dg_world.proofs.Known.{snapshot-known, known-sourced, opened-is, offered-is}
+use Rattle.dg_world.proofs.Known.{given-sourced, opened-is, offered-is}
 use Rattle.dg_world.proofs.acts.evaluated.Given.{Over}
 use Rattle.dg_world.proofs.acts.evaluated.Goals as goal
 
 module _ (g : Over) (c : goal.After-is_offer g) where
-  known : c.in_ok-known.known ≡ known_of g.N.Mark.Mark.seen c.args.desk.now c.args.ticket.now
-  known = snapshot-known g.N.Mark.Mark.seen g.N.Mark.Mark.tables c.args.desk.now c.args.ticket.now c.in_ok-known.known c.is_desk.ensures c.requires.ticket c.in_ok-known.ensures.same c.in_ok-known.ensures.entries
+  known : c.in_ok-known.known ≡ given_of g.N.Mark.Mark.seen c.args.desk.now c.args.ticket.now
+  known = c.in_ok-known.ensures.entries
 
-  opened : c.open-context.result ≡ opened_at c.args.ticket.now (known_of g.N.Mark.Mark.seen c.args.desk.now c.args.ticket.now)
-  opened = opened-is c.open-context.result c.in_ok-share.field-0 c.args.ticket.now c.in_ok-known.known (known_of g.N.Mark.Mark.seen c.args.desk.now c.args.ticket.now) c.open-context.ensures c.in_ok-share.ensures known
+  opened : c.open-context.result ≡ opened_at c.args.ticket.now (given_of g.N.Mark.Mark.seen c.args.desk.now c.args.ticket.now)
+  opened = opened-is c.open-context.result c.in_ok-share.field-0 c.args.ticket.now c.in_ok-known.known (given_of g.N.Mark.Mark.seen c.args.desk.now c.args.ticket.now) c.open-context.ensures c.in_ok-share.ensures known
 
   ticket : c.open-context.result.ticket ≡ c.args.ticket.now
   ticket = ap (λ (x : Evaluating Seen g.row.N-Mark.Denot). x.ticket) opened
 
-  offer : c.offer-offer.result ≡ offer_of g.S.Schema.tables c.args.number c.args.ticket.now c.args.at (walk_of g.S.Schema.tables c.args.ticket.now.revision.graph (known_of g.N.Mark.Mark.seen c.args.desk.now c.args.ticket.now) c.args.at)
+  offer : c.offer-offer.result ≡ offer_of g.S.Schema.tables c.args.number c.args.ticket.now c.args.at (walk_of g.S.Schema.tables c.args.ticket.now.revision.graph (given_of g.N.Mark.Mark.seen c.args.desk.now c.args.ticket.now) c.args.at)
   offer =
       c.offer-offer.ensures
       ∙ offered-is g.S.Schema.tables c.args.number c.args.ticket.now c.args.at c.evaluate.new.self _ (c.evaluate.ensures.ticket ∙ ticket) c.evaluate.ensures.right
@@ -34,9 +30,8 @@ module _ (g : Over) (c : goal.After-is_offer g) where
 
 pub returns-in_err-held-clause-most : goal.returns-in_err-held-clause-most
 returns-in_err-held-clause-most g c =
-    let known =
-    snapshot-known g.N.Mark.Mark.seen g.N.Mark.Mark.tables c.args.desk.now c.args.ticket.now c.in_ok-known.known c.is_desk.ensures c.requires.ticket c.in_ok-known.ensures.same c.in_ok-known.ensures.entries in
-    let opened = opened-is c.open-context.result c.in_ok-share.field-0 c.args.ticket.now c.in_ok-known.known (known_of g.N.Mark.Mark.seen c.args.desk.now c.args.ticket.now) c.open-context.ensures c.in_ok-share.ensures known in
+    let known = c.in_ok-known.ensures.entries in
+    let opened = opened-is c.open-context.result c.in_ok-share.field-0 c.args.ticket.now c.in_ok-known.known (given_of g.N.Mark.Mark.seen c.args.desk.now c.args.ticket.now) c.open-context.ensures c.in_ok-share.ensures known in
     subst (λ (x : Evaluating Seen g.row.N-Mark.Denot). c.evaluate.new.steps ≤ c.args.steps.now + productions_due g.S.Schema.tables x c.args.at) opened c.evaluate.ensures.most
 
 pub offer-offer-requires-clause-evaluated : goal.offer-offer-requires-clause-evaluated
@@ -55,8 +50,8 @@ returns-clause-offer g c = offer g c
 pub returns-clause-sources : goal.returns-clause-sources
 returns-clause-sources g c =
     subst (λ (o : Offered Seen g.row.N-Mark.Denot). HasSources g.N.Mark.Mark.seen c.args.desk.now.history o) (sym (offer g c)) (λ e h.
-    known-sourced g.N.Mark.Mark.seen g.N.Mark.Mark.tables c.args.desk.now c.args.ticket.now e c.is_desk.ensures c.requires.ticket
-    (hits-known g.S.Schema.tables c.args.ticket.now.revision.graph (ends_of (known_of g.N.Mark.Mark.seen c.args.desk.now c.args.ticket.now)) c.args.at e h))
+    given-sourced g.N.Mark.Mark.seen g.N.Mark.Mark.tables c.args.desk.now c.args.ticket.now e c.is_desk.ensures c.gives.ensures.same
+    (hits-known g.S.Schema.tables c.args.ticket.now.revision.graph (ends_of (given_of g.N.Mark.Mark.seen c.args.desk.now c.args.ticket.now)) c.args.at e h))
 
 pub returns-clause-made : goal.returns-clause-made
 returns-clause-made g c =

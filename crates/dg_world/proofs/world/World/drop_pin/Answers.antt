@@ -1,4 +1,4 @@
-use Rattle.std.proofs.Common.{◌≡◌, refl, sym, ap, ◌∙◌, subst, is_some, not, set, None}
+use Rattle.std.proofs.Common.{refl, sym, ap, ◌∙◌, subst, is_some, not, set, None}
 use Rattle.dg_world.specs.Steps.{IsDropped}
 use Rattle.dg_world.specs.Worlds.{Worlded, pin_at}
 use Rattle.dg_world.proofs.Keeping.{dropped}
@@ -8,13 +8,13 @@ use Rattle.dg_world.proofs.world.World.drop_pin.Goals as goal
 
 module _ (g : Over) (c : goal.Joined-index_mut g) where
   abbrev before : Worlded g.row.N.Denot g.row.N-Mark.Denot
-  before = record { editor = c.self.inside.editor; desk = c.self.inside.desk; pins = c.self.inside.pins.items; offers = c.self.inside.offers.items; made = c.self.inside.made }
+  before = record { editor = c.self.inside.editor.it; desk = c.self.inside.desk; pins = c.self.inside.pins.items; offers = c.self.inside.offers.items; made = c.self.inside.made }
 
   abbrev after : Worlded g.row.N.Denot g.row.N-Mark.Denot
-  after = record { editor = c.self.inside.editor; desk = c.self.inside.desk; pins = set c.self.inside.pins.items c.args.pin None; offers = c.self.inside.offers.items; made = c.self.inside.made }
+  after = record { editor = c.self.inside.editor.it; desk = c.self.inside.desk; pins = set c.self.inside.pins.items c.args.pin None; offers = c.self.inside.offers.items; made = c.self.inside.made }
 
 pub invariant_of-self : goal.invariant_of-self
-invariant_of-self g c = dropped g.S.Schema.tables g.N.Mark.Mark.seen (g.N.Line.is_of c.self.inside.editor.line) (before g c) c.args.pin c.self.invariant
+invariant_of-self g c = dropped g.S.Schema.tables g.N.Mark.Mark.seen (g.N.Line.is_of c.self.inside.editor.it.line) (before g c) c.args.pin c.self.invariant
 
 pub returns : goal.returns
 returns g c =

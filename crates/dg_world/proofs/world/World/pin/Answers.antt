@@ -1,4 +1,4 @@
-use Rattle.std.proofs.Common.{◌≡◌, List, [], ◌∷◌, ◌++◌, Option, Some, sym, ap, ◌∙◌, subst, Contains}
+use Rattle.std.proofs.Common.{List, [], ◌∷◌, ◌++◌, Option, Some, sym, ap, ◌∙◌, subst, Contains}
 use Rattle.dg_line.specs.Revisions.{Seen}
 use Rattle.dg_line.specs.Tickets.{Pin}
 use Rattle.dg_desk.specs.Desks.{state_of}
@@ -12,7 +12,7 @@ use Rattle.dg_world.proofs.world.World.pin.Goals as goal
 
 module _ (g : Over) (c : goal.Else-is_err g) where
   abbrev before : Worlded g.row.N.Denot g.row.N-Mark.Denot
-  before = record { editor = c.self.inside.editor; desk = c.self.inside.desk; pins = c.self.inside.pins.items; offers = c.self.inside.offers.items; made = c.self.inside.made }
+  before = record { editor = c.self.inside.editor.it; desk = c.self.inside.desk; pins = c.self.inside.pins.items; offers = c.self.inside.offers.items; made = c.self.inside.made }
 
 pub invariant_of-self-2 : goal.invariant_of-self-2
 invariant_of-self-2 g c =
@@ -23,6 +23,6 @@ invariant_of-self-2 g c =
     c.push.ensures.items ∙ pushed-ok c.push.result (c.self.inside.pins.items ++ Some c.in-Ok-share.ticket ∷ []) c.self.inside.pins.items (sym c.is_err.ensures.value ∙ c.if-is_err.false)
     ∙ ap (λ (p : Pin Seen g.row.N-Mark.Denot). c.self.inside.pins.items ++ Some p ∷ []) ticket in
     subst
-    (λ (ps : List (Option (Pin Seen g.row.N-Mark.Denot))). IsWorld g.S.Schema.tables g.N.Mark.Mark.seen (g.N.Line.is_of c.self.inside.editor.line)
-    (record { editor = c.self.inside.editor; desk = c.self.inside.desk; pins = ps; offers = c.self.inside.offers.items; made = c.self.inside.made })) (sym items)
-    (pinned g.S.Schema.tables g.N.Mark.Mark.seen (g.N.Line.is_of c.self.inside.editor.line) (before g c) c.self.inside.made c.self.invariant listed)
+    (λ (ps : List (Option (Pin Seen g.row.N-Mark.Denot))). IsWorld g.S.Schema.tables g.N.Mark.Mark.seen (g.N.Line.is_of c.self.inside.editor.it.line)
+    (record { editor = c.self.inside.editor.it; desk = c.self.inside.desk; pins = ps; offers = c.self.inside.offers.items; made = c.self.inside.made })) (sym items)
+    (pinned g.S.Schema.tables g.N.Mark.Mark.seen (g.N.Line.is_of c.self.inside.editor.it.line) (before g c) c.self.inside.made c.self.invariant listed)

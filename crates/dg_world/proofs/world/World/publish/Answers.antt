@@ -1,9 +1,9 @@
-use Rattle.std.proofs.Common.{◌≡◌, List, Option, Some, refl, sym, ap, ◌∙◌, subst, slice_get, Contains}
+use Rattle.std.proofs.Common.{◌≡◌, List, Some, refl, sym, ap, ◌∙◌, subst, slice_get, Contains}
 use Rattle.dg_line.specs.Revisions.{Seen}
 use Rattle.dg_offer.specs.Offers.{Offered}
-use Rattle.dg_desk.specs.Desks.{state_of, IsPublication}
+use Rattle.dg_desk.specs.Desks.{IsPublication}
 use Rattle.dg_world.specs.declared.event.Outcome.TheVariants as outcome
-use Rattle.dg_world.specs.Steps.{IsPublish, IsPublished}
+use Rattle.dg_world.specs.Steps.{IsPublish}
 use Rattle.dg_world.specs.Worlds.{Worlded}
 use Rattle.dg_world.proofs.Events.{get-among, get-found, published-by, listed-publication, published-answer, unpublished-answer}
 use Rattle.dg_world.proofs.world.World.publish.Given.{Over}
@@ -11,10 +11,10 @@ use Rattle.dg_world.proofs.world.World.publish.Goals as goal
 
 module _ (g : Over) (c : goal.After-publish g) where
   abbrev before : Worlded g.row.N.Denot g.row.N-Mark.Denot
-  before = record { editor = c.self.inside.editor; desk = c.self.inside.desk; pins = c.self.inside.pins.items; offers = c.self.inside.offers.items; made = c.self.inside.made }
+  before = record { editor = c.self.inside.editor.it; desk = c.self.inside.desk; pins = c.self.inside.pins.items; offers = c.self.inside.offers.items; made = c.self.inside.made }
 
   abbrev after : Worlded g.row.N.Denot g.row.N-Mark.Denot
-  after = record { editor = c.self.inside.editor; desk = c.publish.new.self; pins = c.self.inside.pins.items; offers = c.self.inside.offers.items; made = c.self.inside.made }
+  after = record { editor = c.self.inside.editor.it; desk = c.publish.new.self; pins = c.self.inside.pins.items; offers = c.self.inside.offers.items; made = c.self.inside.made }
 
   found : slice_get c.self.inside.offers.items c.args.offer ≡ Some c.in-Some.offer.now
   found =
@@ -34,7 +34,7 @@ publish-requires-clause-offer g c =
 
 pub invariant_of-self : goal.invariant_of-self
 invariant_of-self g c =
-    published-by g.S.Schema.tables g.N.Mark.Mark.seen (g.N.Line.is_of c.self.inside.editor.line) (before g c) c.in-Ok.copy c.publish.result c.publish.new.self c.self.invariant (there g c) c.publish.ensures
+    published-by g.S.Schema.tables g.N.Mark.Mark.seen (g.N.Line.is_of c.self.inside.editor.it.line) (before g c) c.in-Ok.copy c.publish.result c.publish.new.self c.self.invariant (there g c) c.publish.ensures
 
 pub returns-in-Ok : goal.returns-in-Ok
 returns-in-Ok g c =

@@ -1,6 +1,0 @@
-use Rattle.std.proofs.Common.{◌≡◌, take}
-use Rattle.dg_play.specs.Desk.{late_told}
-use Rattle.dg_play.proofs.state.late_told.Given as goal
-
-abbrev pub invariant-loop-event : goal.invariant-loop-event
-invariant-loop-event l = l.all ≡ late_told (take l.event-index l.history)
