@@ -1,0 +1,4 @@
+-- In reading order: each module uses only the ones before it.
+pub mod Lists
+pub mod Tellings
+pub mod Growing

@@ -1,0 +1,5 @@
+pub mod Counting
+pub mod Passes
+pub mod Plays
+pub mod Taking
+pub mod Desks
