@@ -1,10 +1,11 @@
 -- What deeds that are done, and a put of all lines, say of a whole run.
-use Rattle.std.proofs.Common.{◌≡◌, ◌⊎◌, List, ℕ, [], ◌∷◌, ◌++◌, map, Option, Some, None, refl, sym, ap, ◌∙◌, subst, inl, inr, arith, take, zero, suc, ◌+◌, ◌-◌, ◌^◌, ◌≤◌, le_trans}
+use Rattle.std.proofs.Common.{◌≡◌, true, true≢false, ◌⊎◌, List, ℕ, [], ◌∷◌, ◌++◌, map, Option, Some, None, refl, sym, ap, ◌∙◌, subst, inl, inr, arith, take, zero, suc, ◌+◌, ◌-◌, ◌^◌, ◌≤◌, le_trans}
 use Rattle.std.proofs.Math.Nat.{le-min, min-le_left, min-le_right}
 use Rattle.std.proofs.lemmas.List.{append-nil}
-use Rattle.std.specs.Prelude.{Ok, Err}
+use Rattle.std.specs.Prelude.{Result, Ok, Err, IfOk}
 use Rattle.std.specs.Option.{option_map}
 use Rattle.dg_base.specs.Tables.{Tables}
+use Rattle.dg_base.specs.declared.refusal.Refusal.{Refusal}
 use Rattle.dg_base.specs.declared.refusal.Refusal.TheVariants as refusal
 use Rattle.dg_deeds.specs.declared.deed.Deed.{Deed}
 use Rattle.dg_deeds.specs.declared.deed.Deed.TheVariants.{Put}
@@ -19,11 +20,15 @@ use Rattle.dg_tool.specs.declared.status.Status.{Status}
 use Rattle.dg_tool.specs.declared.status.Status.TheVariants as status
 use Rattle.dg_tool.specs.declared.halt.Halt.{Halt}
 use Rattle.dg_tool.specs.declared.halt.Halt.TheVariants as halt
-use Rattle.dg_tool.specs.declared.output.Output.{Output}
-use Rattle.dg_tool.specs.Halts.{code_of, cut_status, halt_lines, status_of}
-use Rattle.dg_tool.specs.Out.{Out, halted, only_lines}
+use Rattle.dg_tool.specs.declared.due.Output.{Output}
+use Rattle.dg_tool.specs.Halts.{IsDue, code_of, cut_status, halt_lines, is_end, status_of}
+use Rattle.dg_words.specs.declared.task.Task.{Task}
+use Rattle.dg_words.specs.declared.task.Task.TheVariants.{Run, Check, Build, Gen, Format}
+use Rattle.dg_words.specs.declared.task.Usage.{Usage}
+use Rattle.dg_tool.specs.Input.{Start}
+use Rattle.dg_tool.specs.Out.{Doing, Misuse, Out, Plays, Tells, WritesNothing, halted, only_lines}
 use Rattle.dg_tool.specs.Seen.{deeds_of}
-use Rattle.dg_tool.specs.Statement.{AreDone, IsDue, EndsAs, IsOutput, IsPut}
+use Rattle.dg_tool.specs.Statement.{AreDone, EndsAs, IfSomeOf, IsDeskOfDoing, IsDeskOfStart, NeedsNoFiles, IsOutput, IsPut, IsRefused}
 
 -- ---- statuses
 
@@ -34,6 +39,28 @@ no_cut_due stop.NoMemory d = d
 
 not_usage-cut : (s : Stop) → status.Usage ≡ cut_status s → ⊥
 not_usage-cut s is = no_cut_due s (subst IsDue is tt)
+
+-- where all is done
+pub end_due : {D : Type 0} (s : Status) (desk : Option D) → is_end s desk ≡ true → IsDue s
+end_due status.Done desk end = tt
+end_due status.Usage desk end = tt
+end_due status.NoInput desk end = absurd (true≢false (sym end))
+end_due status.Syntax desk end = absurd (true≢false (sym end))
+end_due status.FileFault desk end = absurd (true≢false (sym end))
+end_due status.SinkFault desk end = absurd (true≢false (sym end))
+end_due status.NoMemory desk end = absurd (true≢false (sym end))
+end_due status.TooLarge desk end = absurd (true≢false (sym end))
+
+pub end_no_desk : {D : Type 0} (s : Status) (desk : Option D) → is_end s desk ≡ true → (s ≡ status.Done → ⊥) → desk ≡ None
+end_no_desk status.Done desk end not_done = absurd (not_done refl)
+end_no_desk status.Usage None end not_done = refl
+end_no_desk status.Usage (Some d) end not_done = absurd (true≢false (sym end))
+end_no_desk status.NoInput desk end not_done = absurd (true≢false (sym end))
+end_no_desk status.Syntax desk end not_done = absurd (true≢false (sym end))
+end_no_desk status.FileFault desk end not_done = absurd (true≢false (sym end))
+end_no_desk status.SinkFault desk end not_done = absurd (true≢false (sym end))
+end_no_desk status.NoMemory desk end not_done = absurd (true≢false (sym end))
+end_no_desk status.TooLarge desk end not_done = absurd (true≢false (sym end))
 
 -- a status tells why a run was cut off
 abbrev stop_of : Status → Stop
@@ -92,7 +119,10 @@ is_file_fault (halt.BadFile line code) is = absurd (omega (arith, ap code_of is)
 is_file_fault (halt.TooLarge what) is = absurd (omega (arith, ap code_of is))
 is_file_fault halt.FileFault is = refl
 
--- a count that rose behind another rose behind what is no greater
+-- a count that rose goes on to be above, and rose behind what is no greater
+pub rose-before : (a b c : ℕ) → Rose a b → b ≤ c → Rose a c
+rose-before a b c rose le = le_trans rose le
+
 pub rose-after : (a b c : ℕ) → a ≤ b → Rose b c → Rose a c
 rose-after a b c le rose =
     let more : a + 1 ≤ b + 1 = omega (arith, le) in
@@ -143,49 +173,18 @@ module _ (ended : Status) (tree tree_now : Option Tree) (before now : Option (Li
     cut_off = λ r cut. inl same;
   }
 
-  module _ (t : Tables) (due : Out) (o : Output) (told : IsOutput t (Ok o) due) (done : AreDone status.Done (deeds_of t o) ended tree tree_now before now) where
+  module _ {D : Type 0} (t : Tables) (due : Out) (o : Output D) (told : IsOutput t (Ok o) due) (done : AreDone o.status (deeds_of t o) ended tree tree_now before now) where
     pub done_ends : EndsAs due ended tree tree_now before now
     done_ends =
-        deeds_end due (subst IsDue (sym told.0) tt)
-        (subst (λ s. AreDone s due.deeds ended tree tree_now before now) (sym told.0) (subst (λ (ds : List Deed). AreDone status.Done ds ended tree tree_now before now) (sym told.1) done))
+        deeds_end due (subst IsDue (sym told.0) (end_due o.status o.desk o.end))
+        (subst (λ s. AreDone s due.deeds ended tree tree_now before now) (sym told.0) (subst (λ (ds : List Deed). AreDone o.status ds ended tree tree_now before now) (sym told.1) done))
 
-  module _ (ds : List Deed) (done : AreDone status.Done ds ended tree tree_now before now) where
-    pub done_not_usage : ended ≡ status.Usage → ⊥
-    done_not_usage is = by_end done
-      where
-        by_end : AreDone status.Done ds ended tree tree_now before now → ⊥
-        by_end (inl all) = omega (arith, ap code_of (sym all.0 ∙ is))
-        by_end (inr part) = not_usage-cut part.0 (sym is ∙ part.1)
-
-    pub done_complete : (due : Out) → due.status ≡ status.Done → (ended ≡ status.FileFault → ⊥) → (ended ≡ status.SinkFault → ⊥) → (ended ≡ due.status) ⊎ (ended ≡ status.NoMemory)
-    done_complete due is files sink = by_end done
-      where
-        by_stop : (s : Stop) → ended ≡ cut_status s → (ended ≡ due.status) ⊎ (ended ≡ status.NoMemory)
-        by_stop stop.FileFault e = absurd (files e)
-        by_stop stop.SinkFault e = absurd (sink e)
-        by_stop stop.NoMemory e = inr e
-
-        by_end : AreDone status.Done ds ended tree tree_now before now → (ended ≡ due.status) ⊎ (ended ≡ status.NoMemory)
-        by_end (inl all) = inl (all.0 ∙ sym is)
-        by_end (inr part) = by_stop part.0 part.1
-
-  -- lines alone leave the tree, and are never cut off by a fault of the files
-  module _ (lines : List (List ℕ)) (done : AreDone status.Done (map Put lines) ended tree tree_now before now) where
-    pub lines_same : tree_now ≡ tree
-    lines_same = by_end done
-      where
-        by_end : AreDone status.Done (map Put lines) ended tree tree_now before now → tree_now ≡ tree
-        by_end (inl all) = all.1 ∙ tree_told lines tree
-        by_end (inr part) = IsBegun-lines part.0 lines tree tree_now before now part.2
-
-    pub lines_no_fault : ended ≡ status.FileFault → ⊥
-    lines_no_fault is = by_end done
-      where
-        by_end : AreDone status.Done (map Put lines) ended tree tree_now before now → ⊥
-        by_end (inl all) = omega (arith, ap code_of (sym all.0 ∙ is))
-        by_end (inr part) =
-            IsBegun-lines-fault lines tree tree_now before now
-            (subst (λ s. IsBegun s (map Put lines) tree tree_now before now) (one_stop part.0 stop.FileFault (sym part.1 ∙ is)) part.2)
+  -- lines alone are never cut off by a fault of the files
+  pub lines_no_fault : (due : Status) → IsDue due → (lines : List (List ℕ)) → AreDone due (map Put lines) ended tree tree_now before now → ended ≡ status.FileFault → ⊥
+  lines_no_fault due is_due lines (inl all) failed = subst IsDue (sym all.0 ∙ failed) is_due
+  lines_no_fault due is_due lines (inr part) failed =
+      IsBegun-lines-fault lines tree tree_now before now
+      (subst (λ s. IsBegun s (map Put lines) tree tree_now before now) (one_stop part.0 stop.FileFault (sym part.1 ∙ failed)) part.2)
 
 -- ---- a run that ended before
 
@@ -227,15 +226,15 @@ module _ (ended : Status) (before now : Option (List ℕ)) where
         (deeds_end ended tree tree_now before now (only_lines (status_of h) (line ∷ [])) d
         (line_done ended tree tree_now same before now (status_of h) line (subst (λ (ls : List (List ℕ)). IsPut (status_of h) ls ended before now) one put)))
 
-    pub halted_ends : (t : Tables) (due : Out) (h : Halt) → IsOutput t (Err (refusal.Because h)) due → IsPut (status_of h) (halt_lines h) ended before now →
+    pub halted_ends : (D : Type 0) (t : Tables) (due : Out) (h : Halt) → IsOutput {D = D} t (Err (refusal.Because h)) due → IsPut (status_of h) (halt_lines h) ended before now →
         EndsAs due ended tree tree_now before now
-    halted_ends t due halt.NoInput is put = halt_ends due halt.NoInput _ is tt refl put
-    halted_ends t due (halt.BadLine line code) is put = halt_ends due (halt.BadLine line code) _ is tt refl put
-    halted_ends t due (halt.BadFile line code) is put = halt_ends due (halt.BadFile line code) _ is tt refl put
-    halted_ends t due (halt.TooLarge what) is put = halt_ends due (halt.TooLarge what) _ is tt refl put
-    halted_ends t due halt.FileFault is (inl all) =
+    halted_ends D t due halt.NoInput is put = halt_ends due halt.NoInput _ is tt refl put
+    halted_ends D t due (halt.BadLine line code) is put = halt_ends due (halt.BadLine line code) _ is tt refl put
+    halted_ends D t due (halt.BadFile line code) is put = halt_ends due (halt.BadFile line code) _ is tt refl put
+    halted_ends D t due (halt.TooLarge what) is put = halt_ends due (halt.TooLarge what) _ is tt refl put
+    halted_ends D t due halt.FileFault is (inl all) =
         nothing_ends ended tree tree_now before now due stop.FileFault all.0 (same, nothing_got ended before now (inl all))
-    halted_ends t due halt.FileFault is (inr part) =
+    halted_ends D t due halt.FileFault is (inr part) =
         let s = put_stop part.0 in
         nothing_ends ended tree tree_now before now due s.0 s.1 (same, prefix_of_none before now part.1)
 
@@ -245,17 +244,17 @@ module _ (ended : Status) (before now : Option (List ℕ)) where
         deeds_end ended tree tree_now before now (only_lines status.Usage (line ∷ [])) tt (line_done ended tree tree_now same before now status.Usage line put)
 
 -- the status is the one that is due, where neither the files nor the sink failed, or memory was wanted
-halted_status : (t : Tables) (due : Out) (h : Halt) → IsOutput t (Err (refusal.Because h)) due → (h ≡ halt.FileFault → ⊥) → status_of h ≡ due.status
-halted_status t due halt.NoInput is failed = ap (λ (o : Out). o.status) (sym is)
-halted_status t due (halt.BadLine line code) is failed = ap (λ (o : Out). o.status) (sym is)
-halted_status t due (halt.BadFile line code) is failed = ap (λ (o : Out). o.status) (sym is)
-halted_status t due (halt.TooLarge what) is failed = ap (λ (o : Out). o.status) (sym is)
-halted_status t due halt.FileFault is failed = absurd (failed refl)
+halted_status : (D : Type 0) (t : Tables) (due : Out) (h : Halt) → IsOutput {D = D} t (Err (refusal.Because h)) due → (h ≡ halt.FileFault → ⊥) → status_of h ≡ due.status
+halted_status D t due halt.NoInput is failed = ap (λ (o : Out). o.status) (sym is)
+halted_status D t due (halt.BadLine line code) is failed = ap (λ (o : Out). o.status) (sym is)
+halted_status D t due (halt.BadFile line code) is failed = ap (λ (o : Out). o.status) (sym is)
+halted_status D t due (halt.TooLarge what) is failed = ap (λ (o : Out). o.status) (sym is)
+halted_status D t due halt.FileFault is failed = absurd (failed refl)
 
-pub halted_complete : (t : Tables) (due : Out) (h : Halt) (ended : Status) (before now : Option (List ℕ)) → IsOutput t (Err (refusal.Because h)) due →
+pub halted_complete : (D : Type 0) (t : Tables) (due : Out) (h : Halt) (ended : Status) (before now : Option (List ℕ)) → IsOutput {D = D} t (Err (refusal.Because h)) due →
     IsPut (status_of h) (halt_lines h) ended before now → (h ≡ halt.FileFault → ⊥) → (ended ≡ status.SinkFault → ⊥) → (ended ≡ due.status) ⊎ (ended ≡ status.NoMemory)
-halted_complete t due h ended before now is (inl all) files sink = inl (all.0 ∙ halted_status t due h is files)
-halted_complete t due h ended before now is (inr part) files sink = wants part.0 where
+halted_complete D t due h ended before now is (inl all) files sink = inl (all.0 ∙ halted_status D t due h is files)
+halted_complete D t due h ended before now is (inr part) files sink = wants part.0 where
   wants : (ended ≡ status.SinkFault) ⊎ (ended ≡ status.NoMemory) → (ended ≡ due.status) ⊎ (ended ≡ status.NoMemory)
   wants (inl s) = absurd (sink s)
   wants (inr m) = inr m
@@ -265,5 +264,63 @@ pub sink_failed : (h : Halt) {Rises : Type 0} → (status_of h ≡ status.SinkFa
 sink_failed h (inl is) = absurd (not_sink_fault h is)
 sink_failed h (inr rises) = rises
 
-pub not_memory : status.NoMemory ≡ status.Done → ⊥
-not_memory is = omega (arith, ap code_of is)
+-- ---- refusals
+
+module _ (D : Type 0) (t : Tables) (due : Out) (ended : Status) (before now : Option (List ℕ)) where
+  pub refused_ends : (e : Refusal Halt) (tree : Option Tree) → IsOutput {D = D} t (Err e) due → IsRefused e ended before now → EndsAs due ended tree tree before now
+  refused_ends (refusal.Because h) tree is put = halted_ends ended before now tree tree refl D t due h is put
+  refused_ends refusal.NoMemory tree is put = nothing_ends ended tree tree before now due stop.NoMemory put.0 (refl, put.1)
+
+  pub refused_complete : (e : Refusal Halt) → IsOutput {D = D} t (Err e) due → IsRefused e ended before now → (e ≡ refusal.Because halt.FileFault → ⊥) → (ended ≡ status.SinkFault → ⊥) →
+      (ended ≡ due.status) ⊎ (ended ≡ status.NoMemory)
+  refused_complete (refusal.Because h) is put files sink = halted_complete D t due h ended before now is put (λ f. files (ap refusal.Because f)) sink
+  refused_complete refusal.NoMemory is put files sink = inr put.0
+
+module _ (ended : Status) (before now : Option (List ℕ)) where
+  pub refused_not_done : (e : Refusal Halt) → IsRefused e ended before now → ended ≡ status.Done → ⊥
+  refused_not_done (refusal.Because h) put is = put_not_done ended before now h put is
+  refused_not_done refusal.NoMemory put is = omega (arith, ap code_of (sym put.0 ∙ is))
+
+  pub refused_not_usage : (e : Refusal Halt) → IsRefused e ended before now → ended ≡ status.Usage → ⊥
+  refused_not_usage (refusal.Because h) put is = put_not_usage ended before now h put is
+  refused_not_usage refusal.NoMemory put is = omega (arith, ap code_of (sym put.0 ∙ is))
+
+  pub refused_file_fault : (e : Refusal Halt) → IsRefused e ended before now → ended ≡ status.FileFault → e ≡ refusal.Because halt.FileFault
+  refused_file_fault (refusal.Because h) put is = ap refusal.Because (put_file_fault ended before now h put is)
+  refused_file_fault refusal.NoMemory put is = absurd (omega (arith, ap code_of (sym put.0 ∙ is)))
+
+  pub refused_nothing : (e : Refusal Halt) → IsRefused e ended before now → ended ≡ status.FileFault → now ≡ before
+  refused_nothing (refusal.Because h) put is = nothing_put ended before now h put is
+  refused_nothing refusal.NoMemory put is = put.1
+
+-- ---- what a run does, and what it leaves
+
+-- a count rose in the first part or in the second
+pub rose_both : {Fails : Type 0} (a b c : ℕ) → a ≤ b → b ≤ c → (Fails → Rose a b) → Fails ⊎ Rose b c → Rose a c
+rose_both a b c first second failed (inl fails) = rose-before a b c (failed fails) second
+rose_both a b c first second failed (inr rose) = rose-after a b c first rose
+
+pub of_some : {X E G : Type 0} (r : Result X E) (P Q : X → Type 0) → IfSomeOf r P → IfOk r Q → ((x : X) → P x → Q x → G) → G
+of_some (Ok x) P Q p q f = f x p q
+of_some (Err e) P Q p q f = absurd p
+
+pub needs_none : (w : Result Task Usage) → NeedsNoFiles w → WritesNothing w
+needs_none (Ok (Run script workers cache stats)) none = absurd none
+needs_none (Ok Check) none = absurd none
+needs_none (Ok (Build path workers)) none = absurd none
+needs_none (Ok (Gen seed size workers cache)) none = tt
+needs_none (Ok (Format path)) none = absurd none
+needs_none (Err e) none = tt
+
+-- the desk of a run, as one of the tool
+start_desk : {D E : Type 0} (leaves : Start → D → Type 0) (others : Start → E → Type 0) (f : D → E) → ((s : Start) (d : D) → leaves s d → others s (f d)) →
+    (r : Result Start Halt) (desk : Option D) → IsDeskOfStart leaves r desk → IsDeskOfStart others r (option_map f desk)
+start_desk leaves others f so (Ok s) (Some desk) is = so s desk is
+start_desk leaves others f so (Ok s) None is = is
+start_desk leaves others f so (Err h) desk is = is
+
+pub doing_desk : {D E : Type 0} (leaves : Start → D → Type 0) (others : Start → E → Type 0) (f : D → E) → ((s : Start) (d : D) → leaves s d → others s (f d)) →
+    (d : Doing) (desk : Option D) → IsDeskOfDoing leaves d desk → IsDeskOfDoing others d (option_map f desk)
+doing_desk leaves others f so Misuse desk is = ap (option_map f) is
+doing_desk leaves others f so (Tells r) desk is = ap (option_map f) is
+doing_desk leaves others f so (Plays how r) desk is = start_desk leaves others f so r desk is

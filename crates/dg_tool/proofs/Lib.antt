@@ -1,8 +1,7 @@
 pub mod TextSizes
-pub mod Taking
 pub mod Pieces
 pub mod LineCounts
 pub mod Endings
-pub mod OverNone
 pub mod Tellings
 pub mod Outputs
+pub mod Starts

@@ -1,5 +1,5 @@
 -- What pieces make a run do.
-use Rattle.std.proofs.Common.{◌≡◌, ℕ, List, [], ◌∷◌, ◌++◌, map, flat_map, Option, Some, None, Result, Ok, Err, refl, sym, ap, ◌∙◌, append_assoc}
+use Rattle.std.proofs.Common.{◌≡◌, ℕ, List, [], ◌∷◌, ◌++◌, map, flat_map, Option, Some, None, Result, Ok, Err, refl, sym, ap, ◌∙◌, append_assoc, subst}
 use Rattle.std.specs.Option.{option_map, option_to_list}
 use Rattle.std.proofs.lemmas.Grind.{flat_map-append}
 use Rattle.std.proofs.lemmas.List.{append-nil}
@@ -16,16 +16,17 @@ use Rattle.dg_build.specs.declared.target.Target.{Target}
 use Rattle.dg_build.specs.Targets.{targets}
 use Rattle.dg_deeds.specs.declared.deed.Deed.{Deed}
 use Rattle.dg_deeds.specs.declared.deed.Deed.TheVariants.{Put, Write}
-use Rattle.dg_deeds.specs.Deeds.{lines_in}
+use Rattle.dg_deeds.specs.Deeds.{AreLines, lines_in}
+use Rattle.dg_deeds.proofs.Parts.{lines-are}
 use Rattle.dg_play.specs.declared.reply.Line.{Line}
 use Rattle.dg_play.specs.declared.reply.Reply.{Reply as CodeReply}
 use Rattle.dg_play.specs.declared.reply.Reply.TheVariants as reply
-use Rattle.dg_play.specs.Asks.{Ask}
+use Rattle.dg_asks.specs.Asks.{Ask}
 use Rattle.dg_play.specs.Seen.{line_of, reply_of}
 use Rattle.dg_tool.specs.declared.halt.Halt.{Halt}
 use Rattle.dg_tool.specs.declared.piece.Piece.{Piece}
 use Rattle.dg_tool.specs.Out.{built_deeds, fitting, line_deeds, line_text, reply_deeds, unless_large, write_of}
-use Rattle.dg_tool.specs.Seen.{built_by, built_of, deeds_in, fitting_pieces, line_piece, piece_deeds, plain}
+use Rattle.dg_tool.specs.Seen.{ArePlain, built_by, built_of, deeds_in, fitting_pieces, line_piece, piece_deeds, plain}
 use Rattle.dg_tool.proofs.TextSizes.{accepted-small, fitting-same, large-is, lines_of, refused-large, refused-why, small-is}
 
 -- ---- the lines among deeds
@@ -70,11 +71,14 @@ module _ (t : Tables) (names : List (List ℕ)) where
   deeds-plain [] = refl
   deeds-plain (l ∷ ls) = ap (λ (ds : List Deed). Put l ∷ ds) (deeds-plain ls)
 
+  pub plain-lines : (ps : List Piece) → ArePlain ps → AreLines (deeds_in t names ps)
+  plain-lines ps plain = subst AreLines (sym (ap (deeds_in t names) plain.1 ∙ deeds-plain plain.0)) (lines-are plain.0)
+
   pub deeds-some : (line : Option (List ℕ)) → deeds_in t names (option_to_list (option_map plain line)) ≡ map Put (option_to_list line)
   deeds-some None = refl
   deeds-some (Some line) = refl
 
-  by_reply : (r : CodeReply) → built_of t names (built_by (reply_of r)) ≡ reply_deeds t names (reply_of r)
+  by_reply : (r : CodeReply Ask) → built_of t names (built_by (reply_of r)) ≡ reply_deeds t names (reply_of r)
   by_reply reply.Done = refl
   by_reply reply.Empty = refl
   by_reply reply.LineFull = refl
@@ -91,7 +95,7 @@ module _ (t : Tables) (names : List (List ℕ)) where
   by_reply (reply.Answers a) = refl
   by_reply (reply.Builds a) = refl
 
-  pub deeds-lines : (lines : List Line) → deeds_in t names (map (line_piece t names) lines) ≡ flat_map (λ l. line_deeds t names (line_of l)) lines
+  pub deeds-lines : (lines : List (Line Ask)) → deeds_in t names (map (line_piece t names) lines) ≡ flat_map (λ l. line_deeds t names (line_of l)) lines
   deeds-lines [] = refl
   deeds-lines (l ∷ ls) =
       ap (λ (ds : List Deed). (ds ++ Put (line_text t names (line_of l)) ∷ []) ++ deeds_in t names (map (line_piece t names) ls)) (by_reply l.reply)
@@ -117,7 +121,7 @@ module _ (t : Tables) (names : List (List ℕ)) where
   gives-deeds (Err refusal.NoMemory) ps is = tt
 
   -- the pieces of a script that was played
-  pub played-pieces : (bad : List (List ℕ)) (lines : List Line) (last : Option (List ℕ)) →
+  pub played-pieces : (bad : List (List ℕ)) (lines : List (Line Ask)) (last : Option (List ℕ)) →
       deeds_in t names ((map plain bad ++ map (line_piece t names) lines) ++ option_to_list (option_map plain last))
       ≡ map Put bad ++ (flat_map (λ l. line_deeds t names (line_of l)) lines ++ map Put (option_to_list last))
   played-pieces bad lines last =

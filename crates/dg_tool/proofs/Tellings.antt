@@ -8,8 +8,9 @@ use Rattle.dg_base.specs.declared.refusal.Refusal.TheVariants as refusal
 use Rattle.dg_tool.specs.declared.halt.Halt.{Halt}
 use Rattle.dg_tool.specs.declared.halt.Halt.TheVariants as halt
 use Rattle.dg_tool.specs.Input.{Tells}
-use Rattle.dg_tool.specs.Out.{Out, halted}
-use Rattle.dg_tool.specs.Statement.{IsOutput}
+use Rattle.dg_editor.specs.Machine.{State as Editor}
+use Rattle.dg_tool.specs.Out.{Doing, Out, halted, out_of_doing}
+use Rattle.dg_tool.specs.Statement.{IsOutput, IsStarted}
 
 -- the error that is handed on is the one that was answered
 pub handed : {X E : Type 0} (r : Result X E) (e : E) → IsErr r × IsErrAnd r (λ x. x ≡ e) → r ≡ Err e
@@ -53,10 +54,29 @@ module _ {X Y : Type 0} (view : X → Y) where
 
   -- and what the run leaves of it
   module _ (on : Result Y Halt → Out) (stops : (h : Halt) → on (Err h) ≡ halted h) where
-    pub told-out : (t : Tables) (e : Refusal Halt) (given : Result Y Halt) → Tells view (Err e) given → IsOutput t (Err e) (on given)
-    told-out t refusal.NoMemory given is = tt
-    told-out t (refusal.Because halt.FileFault) given is = tt
-    told-out t (refusal.Because halt.NoInput) given is = ap on is ∙ stops halt.NoInput
-    told-out t (refusal.Because (halt.BadLine line code)) given is = ap on is ∙ stops (halt.BadLine line code)
-    told-out t (refusal.Because (halt.BadFile line code)) given is = ap on is ∙ stops (halt.BadFile line code)
-    told-out t (refusal.Because (halt.TooLarge what)) given is = ap on is ∙ stops (halt.TooLarge what)
+    pub told-out : (D : Type 0) (t : Tables) (e : Refusal Halt) (given : Result Y Halt) → Tells view (Err e) given → IsOutput {D = D} t (Err e) (on given)
+    told-out D t refusal.NoMemory given is = tt
+    told-out D t (refusal.Because halt.FileFault) given is = tt
+    told-out D t (refusal.Because halt.NoInput) given is = ap on is ∙ stops halt.NoInput
+    told-out D t (refusal.Because (halt.BadLine line code)) given is = ap on is ∙ stops (halt.BadLine line code)
+    told-out D t (refusal.Because (halt.BadFile line code)) given is = ap on is ∙ stops (halt.BadFile line code)
+    told-out D t (refusal.Because (halt.TooLarge what)) given is = ap on is ∙ stops (halt.TooLarge what)
+
+  -- and what words come to, where a part of it is refused
+  module _ (t : Tables) (on : Result Y Halt → Doing) (stops : (h : Halt) → out_of_doing t (on (Err h)) ≡ halted h) where
+    pub told-started : (X : Type 0) (editor : X → Editor) (e : Refusal Halt) (given : Result Y Halt) → Tells view (Err e) given → IsStarted {X = X} editor t (Err e) (on given)
+    told-started X editor refusal.NoMemory given is = tt
+    told-started X editor (refusal.Because halt.FileFault) given is = tt
+    told-started X editor (refusal.Because halt.NoInput) given is = ap (λ r. out_of_doing t (on r)) is ∙ stops halt.NoInput
+    told-started X editor (refusal.Because (halt.BadLine line code)) given is = ap (λ r. out_of_doing t (on r)) is ∙ stops (halt.BadLine line code)
+    told-started X editor (refusal.Because (halt.BadFile line code)) given is = ap (λ r. out_of_doing t (on r)) is ∙ stops (halt.BadFile line code)
+    told-started X editor (refusal.Because (halt.TooLarge what)) given is = ap (λ r. out_of_doing t (on r)) is ∙ stops (halt.TooLarge what)
+
+-- what is started is an output of the same, where it ends before a play
+pub started-output : (X D : Type 0) (editor : X → Editor) (t : Tables) (e : Refusal Halt) (d : Doing) → IsStarted {X = X} editor t (Err e) d → IsOutput {D = D} t (Err e) (out_of_doing t d)
+started-output X D editor t refusal.NoMemory d is = tt
+started-output X D editor t (refusal.Because halt.FileFault) d is = tt
+started-output X D editor t (refusal.Because halt.NoInput) d is = is
+started-output X D editor t (refusal.Because (halt.BadLine line code)) d is = is
+started-output X D editor t (refusal.Because (halt.BadFile line code)) d is = is
+started-output X D editor t (refusal.Because (halt.TooLarge what)) d is = is

@@ -1,5 +1,5 @@
 -- How a run ends, and what ends it before a line of its script is put.
-use Rattle.std.specs.Prelude.{ℕ, List, [], ◌∷◌, ◌++◌, codes}
+use Rattle.std.specs.Prelude.{ℕ, Bool, true, false, List, [], ◌∷◌, ◌++◌, Option, None, codes}
 use Rattle.dg_deeds.specs.declared.deed.Stop.{Stop}
 use Rattle.dg_deeds.specs.declared.deed.Stop.TheVariants as stop
 use Rattle.dg_tool.specs.declared.status.Status.{Status}
@@ -20,6 +20,19 @@ code_of status.FileFault = 4
 code_of status.SinkFault = 5
 code_of status.NoMemory = 6
 code_of status.TooLarge = 7
+
+-- the statuses that a call of the outside, or want of memory, may end a run with; each other one is due
+abbrev pub IsDue : Status → Type 0
+IsDue status.FileFault = ⊥
+IsDue status.SinkFault = ⊥
+IsDue status.NoMemory = ⊥
+IsDue _ = Unit {0}
+
+-- whether all is done with this status and this desk: that of a script that was played; words that say no task have none
+abbrev pub is_end : {D : Type 0} → Status → Option D → Bool
+is_end status.Done desk = true
+is_end status.Usage None = true
+is_end _ _ = false
 
 -- the status of a run that is cut off
 abbrev pub cut_status : Stop → Status

@@ -1,6 +1,6 @@
 -- What the tool does for a tree of files and the words of its command line. What it prints of answers and edits has
 -- no cache and no worker; of the cache it tells the work alone, where the words ask for it.
-use Rattle.std.specs.Prelude.{ℕ, List, [], ◌∷◌, ◌++◌, Bool, cond, nat_lt, true, false, Result, Ok, Err, codes, length, map, flat_map}
+use Rattle.std.specs.Prelude.{ℕ, List, [], ◌∷◌, ◌++◌, ◌&&◌, Bool, cond, nat_lt, not, true, false, Result, Ok, Err, codes, length, map, flat_map}
 use Rattle.dg_base.specs.Tables.{Tables}
 use Rattle.dg_base.specs.Graph.{Graph, empty}
 use Rattle.dg_base.specs.Refusal.{and_then}
@@ -20,6 +20,8 @@ use Rattle.dg_tool.specs.declared.status.Status.TheVariants as status
 use Rattle.dg_tool.specs.declared.halt.Halt.{Halt}
 use Rattle.dg_tool.specs.declared.halt.Halt.TheVariants as halt
 use Rattle.dg_tool.specs.declared.halt.Limit.TheVariants as limit
+use Rattle.dg_tool.specs.declared.start.Telling.{Telling}
+use Rattle.dg_tool.specs.declared.start.Telling.TheVariants.{Lines, Sums}
 use Rattle.dg_words.specs.declared.task.Task.{Task}
 use Rattle.dg_words.specs.declared.task.Task.TheVariants.{Run, Check, Build, Gen, Format}
 use Rattle.dg_words.specs.declared.task.Usage.{Usage}
@@ -28,7 +30,7 @@ use Rattle.dg_tool.specs.Text.{ok_text, empty_text, no_name_text, no_label_text,
 use Rattle.dg_tool.specs.Halts.{status_of, halt_lines, error_line}
 use Rattle.dg_line.specs.Revisions.{Seen}
 use Rattle.dg_editor.specs.Machine.{revisions}
-use Rattle.dg_play.specs.Asks.{Ask}
+use Rattle.dg_asks.specs.Asks.{Ask}
 use Rattle.dg_play.specs.Play.{Reply, Done, Empty, LineFull, NothingToUndo, NothingToRedo, NoName, NoLabel, Misses, Refused, PinUsed, PinsFull, PinnedAt, NoPin, Answers, Builds, Line, Played, graph_now, played}
 use Rattle.dg_play.specs.Work.{Work, work_of}
 use Rattle.dg_play.specs.Desk.{answers_in}
@@ -193,23 +195,68 @@ start_of_gen t seed size cache = start_of t (project_files seed size) cache (com
 
 -- what it comes to is told in four lines, and none of its own: no line of the script, and no build file
 abbrev pub gen_lines : Tables → Start → List (List ℕ)
-gen_lines t s = sum_lines t s.file_count (length (graph_now s.begin).nodes) (length (graph_now s.begin).arcs) s.commands (played_from t s)
+gen_lines t s = sum_lines t s.file_count (length (graph_now s.begin).nodes) (length (graph_now s.begin).arcs) s.commands (played_from t s).lines (played_from t s).state.names
 
 abbrev pub out_of_gen : Tables → Result Start Halt → Out
 out_of_gen t (Ok s) = done (played_from t s) (map Put (gen_lines t s))
 out_of_gen t (Err h) = halted h
 
--- a script is played without workers, whatever their number
-abbrev pub out_of_task : Tables → Tree → Task → Out
-out_of_task t tree (Run script workers cache stats) = out_of_start t stats (start_of_run t tree script cache)
-out_of_task t tree (Format path) = out_of_text (formatted_in tree path)
-out_of_task t tree Check = out_of_text (checked t tree)
-out_of_task t tree (Build path workers) = out_of_start t false (start_of_build t tree path)
-out_of_task t tree (Gen seed size workers cache) = out_of_gen t (start_of_gen t seed size cache)
+-- ---- what words come to
 
-abbrev pub out_of_words : Tables → Tree → Result Task Usage → Out
-out_of_words t tree (Ok task) = out_of_task t tree task
-out_of_words t tree (Err e) = usage
+-- no task; lines that are told; or a play from a start, and how it is told
+pub data Doing : Type 0 where
+  Misuse : Doing
+  Tells : Result (List (List ℕ)) Halt → Doing
+  Plays : Telling → Result Start Halt → Doing
+
+-- a script is played by workers or without, which makes no difference here
+abbrev pub doing_of : Tables → Tree → Task → Doing
+doing_of t tree (Run script workers cache stats) = Plays (Lines stats) (start_of_run t tree script cache)
+doing_of t tree (Format path) = Tells (formatted_in tree path)
+doing_of t tree Check = Tells (checked t tree)
+doing_of t tree (Build path workers) = Plays (Lines false) (start_of_build t tree path)
+doing_of t tree (Gen seed size workers cache) = Plays Sums (start_of_gen t seed size cache)
+
+abbrev pub doing_in : Tables → Tree → Result Task Usage → Doing
+doing_in t tree (Ok task) = doing_of t tree task
+doing_in t tree (Err e) = Misuse
+
+abbrev pub out_of_play : Tables → Telling → Result Start Halt → Out
+out_of_play t (Lines stats) r = out_of_start t stats r
+out_of_play t Sums r = out_of_gen t r
+
+abbrev pub out_of_doing : Tables → Doing → Out
+out_of_doing t Misuse = usage
+out_of_doing t (Tells r) = out_of_text r
+out_of_doing t (Plays how r) = out_of_play t how r
 
 abbrev pub out_of : Tables → Tree → List (List ℕ) → Out
-out_of t tree words = out_of_words t tree (task_in words)
+out_of t tree words = out_of_doing t (doing_in t tree (task_in words))
+
+-- ---- kinds of words
+
+-- by how many workers a play may be done
+abbrev pub workers_in : Result Task Usage → ℕ
+workers_in (Ok (Run script workers cache stats)) = workers
+workers_in (Ok (Build path workers)) = workers
+workers_in (Ok (Gen seed size workers cache)) = workers
+workers_in (Ok _) = 0
+workers_in (Err e) = 0
+
+-- whether they ask for a line on the work
+abbrev pub stats_in : Result Task Usage → Bool
+stats_in (Ok (Run script workers cache stats)) = stats
+stats_in (Ok _) = false
+stats_in (Err e) = false
+
+-- whether workers evaluate what a play asks for; a line on the work is on that of the play alone
+abbrev pub is_crewed : Result Task Usage → Bool
+is_crewed w = nat_lt 0 (workers_in w) && not (stats_in w)
+
+-- tasks that write nothing
+abbrev pub WritesNothing : Result Task Usage → Type 0
+WritesNothing (Ok Check) = Unit {0}
+WritesNothing (Ok (Format path)) = Unit {0}
+WritesNothing (Ok (Gen seed size workers cache)) = Unit {0}
+WritesNothing (Ok _) = ⊥
+WritesNothing (Err e) = Unit {0}

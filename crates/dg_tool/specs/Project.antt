@@ -16,9 +16,10 @@ use Rattle.dg_load.specs.declared.draft.Bound.{Bound}
 use Rattle.dg_load.specs.declared.whole.Loaded.{Loaded}
 use Rattle.dg_load.specs.Loads.{load_of}
 use Rattle.dg_bind.specs.Bindings.{Binding, bind}
-use Rattle.dg_editor.specs.Machine.{made_by}
+use Rattle.dg_base.specs.declared.step.Step.{Step}
+use Rattle.dg_base.specs.Refusal.{and_then}
+use Rattle.dg_editor.specs.Machine.{made_by, opened}
 use Rattle.dg_play.specs.Play.{State, with_bound, with_names}
-use Rattle.dg_play.specs.States.{before_all}
 use Rattle.dg_tool.specs.declared.halt.Halt.{Halt}
 use Rattle.dg_tool.specs.declared.halt.Halt.TheVariants as halt
 use Rattle.dg_tool.specs.declared.halt.Limit.{Limit}
@@ -45,6 +46,10 @@ bind_next made bound b = bind_node bound b.name (slice_get made b.node)
 
 abbrev pub bind_loaded : List NodeId → List Bound → List Binding → List Binding
 bind_loaded made bs bound = fold (bind_next made) bound bs
+
+-- the state before the first command: what these steps make, no pin, and no name
+abbrev pub before_all : Tables → List Step → Result State RefusedStep
+before_all t ss = and_then (opened t ss) (λ e. Ok (record { editor = e; pins = []; bound = []; names = [] }))
 
 -- a project that was loaded
 pub record Project : Type 0 where

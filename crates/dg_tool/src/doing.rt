@@ -1,7 +1,7 @@
 //! All that a run does, in order.
 ghost use Rattle.std.specs.Prelude.{◌≡◌, ◌≤◌, ◌++◌, map, IfErr, IfOk, IsErrOf, OnOk};
 ghost use Rattle.std.specs.Option.{option_map};
-ghost use Rattle.dg_deeds.specs.Deeds.{IsBegun, text_after, tree_after};
+ghost use Rattle.dg_deeds.specs.Deeds.{AreLines, IsBegun, text_after, tree_after};
 ghost use Rattle.dg_files.specs.Outcome.{Rose, StaysSound};
 ghost use Rattle.dg_kinds_coll.specs.Defold.{defold_tables};
 ghost use Rattle.dg_tool.specs.Out.{build_folder, built_deeds, write_of};
@@ -28,6 +28,7 @@ pub(crate) fn do_pieces<F: Files, S: Sink>(
 ) -> Result<(), Stop>
     ensures tree { OnOk result (F.tree files.new ≡ option_map (tree_after (deeds_in defold_tables names.now pieces.items)) (F.tree files.old)) }
     ensures text { OnOk result (S.bytes out.new ≡ option_map (text_after (deeds_in defold_tables names.now pieces.items)) (S.bytes out.old)) }
+    ensures untouched { AreLines (deeds_in defold_tables names.now pieces.items) → files.new ≡ files.old }
     ensures begun { IfErr result (λ stop. IsBegun stop (deeds_in defold_tables names.now pieces.items) (F.tree files.old) (F.tree files.new) (S.bytes out.old) (S.bytes out.new)) }
     ensures files_never_fall { F.faults files.old ≤ F.faults files.new }
     ensures out_never_falls { S.faults out.old ≤ S.faults out.new }
@@ -52,6 +53,7 @@ fn do_piece<F: Files, S: Sink>(
 ) -> Result<(), Stop>
     ensures tree { OnOk result (F.tree files.new ≡ option_map (tree_after (piece_deeds defold_tables names.now piece)) (F.tree files.old)) }
     ensures text { OnOk result (S.bytes out.new ≡ option_map (text_after (piece_deeds defold_tables names.now piece)) (S.bytes out.old)) }
+    ensures untouched { AreLines (piece_deeds defold_tables names.now piece) → files.new ≡ files.old }
     ensures begun { IfErr result (λ stop. IsBegun stop (piece_deeds defold_tables names.now piece) (F.tree files.old) (F.tree files.new) (S.bytes out.old) (S.bytes out.new)) }
     ensures files_never_fall { F.faults files.old ≤ F.faults files.new }
     ensures out_never_falls { S.faults out.old ≤ S.faults out.new }

@@ -3,8 +3,7 @@ ghost use Rattle.std.specs.Prelude.{◌≡◌, ◌++◌, map, flat_map, length, 
 ghost use Rattle.std.specs.Option.{option_map, option_to_list};
 ghost use Rattle.dg_kinds_coll.specs.Defold.{defold_tables};
 ghost use Rattle.dg_base.specs.Refusal.{Gives};
-ghost use Rattle.dg_play.specs.Play.{graph_now};
-ghost use Rattle.dg_play.specs.Seen.{line_of, reply_of, state_of};
+ghost use Rattle.dg_play.specs.Seen.{graph_by, line_of, reply_of};
 ghost use Rattle.dg_deeds.specs.declared.deed.Deed.TheVariants.{Put};
 ghost use Rattle.dg_tool.specs.Out.{bad_lines, built_text, checked_lines, fitting, line_deeds, line_text, reply_text, size_line, unless_large};
 ghost use Rattle.dg_tool.specs.Seen.{all_plain, built_by, deeds_in, fitting_pieces, line_piece, plain, seen_project};
@@ -14,10 +13,11 @@ use crate::page::Page;
 use crate::piece::{Piece, Pieces};
 use crate::project::Project;
 use crate::text;
+use dg_asks::Answered;
 use dg_base::{Answer, Names, Refusal};
 use dg_build::targets;
 use dg_files::Bytes;
-use dg_play::{Answered, Line, Reply};
+use dg_play::{Line, Opener, Reply};
 use dg_report::put_answer;
 use dg_sources::BadPlace;
 use itoa::Buffer;
@@ -28,7 +28,7 @@ use std::alloc::{AllocError, Global};
 pub(crate) fn printed(
     alloc: Global,
     bad: &[BadPlace],
-    lines: Vec<Line>,
+    lines: Vec<Line<Answered>>,
     names: &Names,
     last: Option<Bytes>,
 ) -> Result<Pieces, Refusal<Halt>>
@@ -41,7 +41,7 @@ pub(crate) fn printed(
 fn pieces_of(
     alloc: Global,
     bad: &[BadPlace],
-    lines: Vec<Line>,
+    lines: Vec<Line<Answered>>,
     names: &Names,
     last: Option<Bytes>,
 ) -> Result<Pieces, Refusal<Halt>>
@@ -56,10 +56,13 @@ fn pieces_of(
 }
 
 /// The lines of a project that is checked: those of its bad places, and one on what it has.
-pub(crate) fn checked(alloc: Global, project: &Project) -> Result<Pieces, Refusal<Halt>>
-    ensures { Gives (λ ps. ps.items) result (all_plain (unless_large (checked_lines (seen_project project.now)) (checked_lines (seen_project project.now)))) }
+pub(crate) fn checked<O: Opener>(
+    alloc: Global,
+    project: &Project<O::Game>,
+) -> Result<Pieces, Refusal<Halt>>
+    ensures { Gives (λ ps. ps.items) result (all_plain (unless_large (checked_lines (seen_project O.editor project.now)) (checked_lines (seen_project O.editor project.now)))) }
 {
-    let size = size_line(alloc, project)?;
+    let size = size_line::<O>(alloc, project)?;
     let none = Vec::new(alloc);
     pieces_of(
         alloc,
@@ -71,10 +74,10 @@ pub(crate) fn checked(alloc: Global, project: &Project) -> Result<Pieces, Refusa
 }
 
 // The line on what a project has.
-fn size_line(alloc: Global, project: &Project) -> Result<Bytes, AllocError>
-    ensures { IfOk result (λ l. l ≡ size_line (graph_now (state_of project.now.begin)) (length project.now.bad)) }
+fn size_line<O: Opener>(alloc: Global, project: &Project<O::Game>) -> Result<Bytes, AllocError>
+    ensures { IfOk result (λ l. l ≡ size_line (graph_by O.editor project.now.begin.game) (length project.now.bad)) }
 {
-    let graph = project.begin.world.now().revision().graph();
+    let graph = O::graph(&project.begin.game);
     text::size_line(
         alloc,
         graph.node_count(),
@@ -96,7 +99,7 @@ fn put_bad(alloc: Global, page: &mut Page, bad: &[BadPlace]) -> Result<(), Refus
 fn put_played(
     alloc: Global,
     page: &mut Page,
-    lines: Vec<Line>,
+    lines: Vec<Line<Answered>>,
     names: &Names,
 ) -> Result<(), Refusal<Halt>>
     ensures { Gives (λ _. page.new) result (fitting_pieces (page.old ++ map (line_piece defold_tables names.now) lines.items)) }
@@ -109,7 +112,7 @@ fn put_played(
 }
 
 // A line, with the answer that its command builds.
-fn piece_of(alloc: Global, line: Line, names: &Names) -> Result<Piece, AllocError>
+fn piece_of(alloc: Global, line: Line<Answered>, names: &Names) -> Result<Piece, AllocError>
     ensures { IfOk result (λ p. p ≡ line_piece defold_tables names.now line) }
 {
     let text = line_text(alloc, &line, names)?;
@@ -120,7 +123,7 @@ fn piece_of(alloc: Global, line: Line, names: &Names) -> Result<Piece, AllocErro
     })
 }
 
-fn built_by(reply: Reply) -> Option<Answered>
+fn built_by(reply: Reply<Answered>) -> Option<Answered>
     ensures { result ≡ built_by (reply_of reply) }
 {
     match reply {
@@ -130,7 +133,7 @@ fn built_by(reply: Reply) -> Option<Answered>
 }
 
 /// A line: the number of the script's line, a colon, a blank, the text of its reply and a line feed.
-fn line_text(alloc: Global, line: &Line, names: &Names) -> Result<Bytes, AllocError>
+fn line_text(alloc: Global, line: &Line<Answered>, names: &Names) -> Result<Bytes, AllocError>
     ensures { IfOk result (λ b. b ≡ line_text defold_tables names.now (line_of line.now)) }
 {
     let mut out = Vec::from_slice(alloc, Buffer::new().format(line.number).as_bytes())?;
@@ -143,7 +146,7 @@ fn line_text(alloc: Global, line: &Line, names: &Names) -> Result<Bytes, AllocEr
 fn put_reply(
     alloc: Global,
     out: &mut Vec<u8>,
-    reply: &Reply,
+    reply: &Reply<Answered>,
     names: &Names,
 ) -> Result<(), AllocError>
     ensures { OnOk result (out.new.items ≡ out.old.items ++ reply_text defold_tables names.now (reply_of reply.now)) }

@@ -2,8 +2,8 @@
 ghost use Rattle.std.specs.Prelude.{◌≡◌};
 ghost use Rattle.dg_tool.specs.Seen.{plain};
 
+use dg_asks::Answered;
 use dg_files::Bytes;
-use dg_play::Answered;
 
 /// A line, and the answer whose build files are written before it, where there is one.
 #[derive(Drop)]

@@ -5,36 +5,32 @@ ghost use Rattle.dg_files.specs.Outcome.{Rose, StaysSound};
 ghost use Rattle.dg_kinds_coll.specs.Defold.{defold_tables};
 ghost use Rattle.dg_tool.specs.Input.{Tells};
 ghost use Rattle.dg_tool.specs.Project.{bind_loaded, bind_next, limit_of, limit_of_step, loaded, project_of};
-ghost use Rattle.dg_tool.specs.Seen.{IsOpened, seen_project};
+ghost use Rattle.dg_tool.specs.Seen.{seen_project};
 
 use crate::halt::{Halt, Limit};
 use dg_base::{Names, NodeId, Refusal, TxCode};
 use dg_bind::Bindings;
 use dg_files::Files;
 use dg_load::{Bound, Loaded, load};
-use dg_play::State;
+use dg_play::{Begin, Opener};
 use dg_sources::{BadPlaces, Large, LoadEnd};
 use std::alloc::{AllocError, Global};
 
-/// A project that was loaded: the state that a script begins with, the bad places of its files, and how many of them were
-/// read.
+/// A project that was loaded: what a script begins with, the bad places of its files, and how many of them were read.
 #[derive(Drop)]
-pub(crate) struct Project {
-    pub(crate) begin: State,
+pub(crate) struct Project<X> {
+    pub(crate) begin: Begin<X>,
     pub(crate) bad: BadPlaces,
     pub(crate) file_count: u32,
 }
 
-/// Loads the project, with a cache for so many entries. The files are read and nothing else.
-pub(crate) fn loaded<F: Files>(
+/// Loads the project. The files are read and nothing else.
+pub(crate) fn loaded<F: Files, O: Opener + Drop>(
     alloc: Global,
+    opener: O,
     files: &mut F,
-    capacity: u32,
-) -> Result<Project, Refusal<Halt>>
-    requires { 1 ≤ capacity }
-    ensures told { IfSome (F.tree files.old) (λ t. Tells seen_project result (loaded defold_tables t)) }
-    ensures opened { IfOk result (λ p. IsOpened p.begin) }
-    ensures capacity { IfOk result (λ p. p.begin.world.desk.capacity ≡ capacity) }
+) -> Result<Project<O::Game>, Refusal<Halt>>
+    ensures told { IfSome (F.tree files.old) (λ t. Tells (seen_project O.editor) result (loaded defold_tables t)) }
     ensures tree { F.tree files.new ≡ F.tree files.old }
     ensures never_falls { F.faults files.old ≤ F.faults files.new }
     ensures cause { IsErrOf result (Refusal.Because Halt.FileFault) → Rose (F.faults files.old) (F.faults files.new) }
@@ -42,7 +38,7 @@ pub(crate) fn loaded<F: Files>(
 {
     let mut names = Names::new(alloc);
     match load(alloc, files, &mut names) {
-        Ok(loaded) => project_of(alloc, names, loaded, capacity),
+        Ok(loaded) => project_of(alloc, opener, names, loaded),
         Err(Refusal::Because(LoadEnd::TooLarge(what))) => Err(Refusal::Because(Halt::TooLarge(
             limit_of(what),
         ))),
@@ -62,29 +58,26 @@ fn limit_of(what: Large) -> Limit
 }
 
 /// The project of a load: its steps are the first transaction, and its names are bound.
-pub(crate) fn project_of(
+pub(crate) fn project_of<O: Opener + Drop>(
     alloc: Global,
+    opener: O,
     names: Names,
     loaded: Loaded,
-    capacity: u32,
-) -> Result<Project, Refusal<Halt>>
-    requires { 1 ≤ capacity }
-    ensures told { Gives seen_project result (project_of defold_tables names loaded) }
-    ensures opened { IfOk result (λ p. IsOpened p.begin) }
-    ensures capacity { IfOk result (λ p. p.begin.world.desk.capacity ≡ capacity) }
+) -> Result<Project<O::Game>, Refusal<Halt>>
+    ensures told { Gives (seen_project O.editor) result (project_of defold_tables names loaded) }
     ensures no_fault { ¬ IsErrOf result (Refusal.Because Halt.FileFault) }
 {
-    let (mut begin, made) = match State::open(alloc, loaded.steps.as_slice(), capacity) {
+    let (game, made) = match opener.open(alloc, loaded.steps.as_slice()) {
         Ok(opened) => opened,
         Err(Refusal::Because(refused)) => {
             return Err(Refusal::Because(Halt::TooLarge(limit_of_step(refused.code))));
         }
         Err(Refusal::NoMemory) => return Err(Refusal::NoMemory),
     };
-    begin.names = names;
-    match bind_loaded(&mut begin.bound, made.as_slice(), loaded.bound.as_slice()) {
+    let mut bound = Bindings::new(alloc);
+    match bind_loaded(&mut bound, made.as_slice(), loaded.bound.as_slice()) {
         Ok(()) => Ok(Project {
-            begin,
+            begin: Begin { game, bound, names },
             bad: loaded.bad,
             file_count: loaded.file_count,
         }),

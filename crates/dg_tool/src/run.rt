@@ -1,41 +1,38 @@
-//! The top call.
-ghost use Rattle.std.specs.Prelude.{◌≡◌, ◌≤◌, ◌⊎◌, ◌+◌, ℕ, [], map, string_bytes, IfOk, IfSome, Option, None, Ok};
+//! A run on one thread, and how any run ends.
+ghost use Rattle.std.specs.Prelude.{◌≡◌, ◌≤◌, ◌⊎◌, ◌+◌, map, string_bytes, IfOk, IsErrOf, None, Ok};
+ghost use Rattle.dg_editor.specs.Seeing.{state_of as editor_of};
 ghost use Rattle.dg_files.specs.Outcome.{Rose, StaysSound};
 ghost use Rattle.dg_files.specs.Tree.{Tree};
 ghost use Rattle.dg_kinds_coll.specs.Defold.{defold_tables};
 ghost use Rattle.dg_tool.specs.Halts.{status_of, halt_lines};
-ghost use Rattle.dg_tool.specs.Out.{out_of, out_of_task, usage_lines};
-ghost use Rattle.dg_tool.specs.Seen.{deeds_of};
-ghost use Rattle.dg_tool.specs.Statement.{AreDone, EndsAs, HasCauses, IsComplete, IsDeskOfTask, IsDeskOfWords, IsPut, NeedsNoFiles, WritesNothing, made_by_task, made_by_words, needs_no_files};
+ghost use Rattle.dg_tool.specs.Out.{Out, WritesNothing, doing_in, out_of, out_of_play};
+ghost use Rattle.dg_tool.specs.Seen.{ArePlain, IsSized, deeds_of, seen_start};
+ghost use Rattle.dg_tool.specs.Statement.{AreDone, EndsAs, GoesBy, HasCauses, IfSomeOf, IsComplete, IsDeskOfDoing, IsDeskOfStart, IsLeftAlone, IsOutput, IsPlain, IsPut, IsRefused, NeedsNoFiles, made_by, made_by_start};
 ghost use Rattle.dg_words.specs.Paths.{usage as no_task};
-ghost use Rattle.dg_words.specs.Ranges.{IsInRange};
 ghost use Rattle.dg_words.specs.Tasks.{task_in};
 
 use crate::doing::do_pieces;
+use crate::due::Output;
+use crate::ended::Ended;
 use crate::halt::Halt;
-use crate::output::{Output, output_of};
+use crate::output::{finished, misused, told};
+use crate::start::{Start, Started, Telling, read_start};
 use crate::status::Status;
-use crate::text::{self, Lines};
+use crate::text::Lines;
+use dg_alone::{AloneDesk, AloneEditor, Solo, play_alone};
 use dg_base::{Refusal, Steps};
 use dg_deeds::put_lines;
-use dg_files::{Files, MemFiles, Sink};
-use dg_play::ScriptDesk;
-use dg_words::laws::numbers_are_in_range;
-use dg_words::{Task, read_words};
-use std::alloc::{AllocError, Global};
+use dg_files::{Files, Sink};
+use std::alloc::Global;
 use std::sync::ledger::Ledger;
-
-/// How a run ended, and the cache of a script that was played to its end, with the records of all that was done with it.
-#[derive(Drop)]
-pub struct Ended {
-    pub status: Status,
-    pub desk: Option<ScriptDesk>,
-}
 
 /// Does what the words of a command line say, on this thread alone: loads the project and plays a script over it, or
 /// builds, checks or formats a part of it, or plays a project that it makes. It puts its lines, and before the line of a
 /// build it writes the build's files, all of them below `/build/default`; nothing else is written. It waits for nobody
 /// and always returns.
+///
+/// What is said of a tree `t` holds where the files tell it; and of every `t` where the words need no files: they say no
+/// task, or `gen`, which plays over files of its own. Then the files are left alone.
 ///
 /// A count of failures that stands at its greatest, 2^64 - 1, can't rise, so there a failure can't be
 /// told from none; below it, `complete` says that nothing is hidden.
@@ -53,180 +50,139 @@ pub fn run_alone<F: Files, S: Sink, L: Ledger>(
     files: &mut F,
     out: &mut S,
     steps: &mut Steps<L>,
-) -> Ended
-    ensures ends { IfSome (F.tree files.old)
-        (λ t. EndsAs (out_of defold_tables t (map string_bytes words.now)) result.status (F.tree files.old) (F.tree files.new) (S.bytes out.old) (S.bytes out.new)) }
+) -> Ended<AloneDesk>
+    ensures ends { (t : Tree) → GoesBy (F.tree files.old) (task_in (map string_bytes words.now)) t →
+        EndsAs (out_of defold_tables t (map string_bytes words.now)) result.status (F.tree files.old) (F.tree files.new) (S.bytes out.old) (S.bytes out.new) }
     ensures causes { HasCauses result.status (F.faults files.old) (F.faults files.new) (S.faults out.old) (S.faults out.new) }
-    ensures complete { IfSome (F.tree files.old)
-        (λ t. IsComplete (out_of defold_tables t (map string_bytes words.now)) result.status
-        (F.faults files.old) (F.faults files.new) (S.faults out.old) (S.faults out.new)) }
+    ensures complete { (t : Tree) → GoesBy (F.tree files.old) (task_in (map string_bytes words.now)) t →
+        IsComplete (out_of defold_tables t (map string_bytes words.now)) result.status
+        (F.faults files.old) (F.faults files.new) (S.faults out.old) (S.faults out.new) }
 
     // At the end of a task that is done: the desk of a script that was played, and how many productions were made.
-    ensures desk { result.status ≡ Status.Done →
-        IfSome (F.tree files.old) (λ t. IsDeskOfWords defold_tables t (task_in (map string_bytes words.now)) result.desk) }
-    ensures work { result.status ≡ Status.Done →
-        IfSome (F.tree files.old) (λ t. steps.new ≡ steps.old + made_by_words defold_tables t (task_in (map string_bytes words.now))) }
+    ensures desk { result.status ≡ Status.Done → (t : Tree) → GoesBy (F.tree files.old) (task_in (map string_bytes words.now)) t →
+        IsDeskOfDoing (IsLeftAlone defold_tables) (doing_in defold_tables t (task_in (map string_bytes words.now))) result.desk }
+    ensures work { result.status ≡ Status.Done → (t : Tree) → GoesBy (F.tree files.old) (task_in (map string_bytes words.now)) t →
+        steps.new ≡ steps.old + made_by defold_tables (doing_in defold_tables t (task_in (map string_bytes words.now))) }
     ensures no_desk { ¬ (result.status ≡ Status.Done) → result.desk ≡ None }
 
-    // Over any files, also those that tell nothing: words that say no task, and a task that needs no files, leave them
-    // alone and do what they do over none.
+    // Over any files, also those that tell nothing: the words alone decide on the status of usage. Files that aren't needed
+    // are left alone. A task that writes nothing leaves the tree, and where a call of the files failed it has printed
+    // nothing. What never fails goes on so.
+    ensures usage { result.status ≡ Status.Usage → task_in (map string_bytes words.now) ≡ no_task }
     ensures untouched { NeedsNoFiles (task_in (map string_bytes words.now)) → files.new ≡ files.old }
-    ensures ends_over_none { NeedsNoFiles (task_in (map string_bytes words.now)) →
-        EndsAs (out_of defold_tables [] (map string_bytes words.now)) result.status (F.tree files.old) (F.tree files.new) (S.bytes out.old) (S.bytes out.new) }
-    ensures complete_over_none { NeedsNoFiles (task_in (map string_bytes words.now)) →
-        IsComplete (out_of defold_tables [] (map string_bytes words.now)) result.status
-        (F.faults files.old) (F.faults files.new) (S.faults out.old) (S.faults out.new) }
-    ensures desk_over_none { NeedsNoFiles (task_in (map string_bytes words.now)) → result.status ≡ Status.Done →
-        IsDeskOfWords defold_tables [] (task_in (map string_bytes words.now)) result.desk }
-    ensures work_over_none { NeedsNoFiles (task_in (map string_bytes words.now)) → result.status ≡ Status.Done →
-        steps.new ≡ steps.old + made_by_words defold_tables [] (task_in (map string_bytes words.now)) }
-
-    // Over any files: the words alone decide on the status of usage. A task that writes nothing leaves the tree, and
-    // where a call of the files failed it has printed nothing. What never fails goes on so.
-    ensures usage_alone { result.status ≡ Status.Usage → task_in (map string_bytes words.now) ≡ no_task }
     ensures tree { WritesNothing (task_in (map string_bytes words.now)) → F.tree files.new ≡ F.tree files.old }
     ensures files_failed { WritesNothing (task_in (map string_bytes words.now)) → result.status ≡ Status.FileFault → S.bytes out.new ≡ S.bytes out.old }
     ensures files_sound { StaysSound F.is_sound F.faults files.old files.new }
     ensures out_sound { StaysSound S.is_sound S.faults out.old out.new }
 {
-    numbers_are_in_range();
-    match read_words(alloc, words) {
-        Ok(task) => run_task(alloc, task, files, out, steps),
-        Err(Refusal::Because(_)) => Ended {
-            status: put_usage(alloc, out),
-            desk: None,
-        },
-        Err(Refusal::NoMemory) => Ended {
-            status: Status::NoMemory,
-            desk: None,
-        },
+    let output = played_alone(alloc, words, files, steps);
+    end_run(alloc, output, files, out)
+}
+
+// What the words come to, played to its end.
+fn played_alone<F: Files, L: Ledger>(
+    alloc: Global,
+    words: &[String],
+    files: &mut F,
+    steps: &mut Steps<L>,
+) -> Result<Output<AloneDesk>, Refusal<Halt>>
+    ensures told { (t : Tree) → GoesBy (F.tree files.old) (task_in (map string_bytes words.now)) t → IsOutput defold_tables result (out_of defold_tables t (map string_bytes words.now)) }
+    ensures desk { IfOk result (λ o. (t : Tree) → GoesBy (F.tree files.old) (task_in (map string_bytes words.now)) t →
+        IsDeskOfDoing (IsLeftAlone defold_tables) (doing_in defold_tables t (task_in (map string_bytes words.now))) o.desk) }
+    ensures work { IfOk result (λ o. (t : Tree) → GoesBy (F.tree files.old) (task_in (map string_bytes words.now)) t →
+        steps.new ≡ steps.old + made_by defold_tables (doing_in defold_tables t (task_in (map string_bytes words.now)))) }
+    ensures plain { WritesNothing (task_in (map string_bytes words.now)) → IsPlain result }
+    ensures usage { IfOk result (λ o. o.status ≡ Status.Usage → task_in (map string_bytes words.now) ≡ no_task) }
+    ensures untouched { NeedsNoFiles (task_in (map string_bytes words.now)) → files.new ≡ files.old }
+    ensures tree { F.tree files.new ≡ F.tree files.old }
+    ensures never_falls { F.faults files.old ≤ F.faults files.new }
+    ensures cause { IsErrOf result (Refusal.Because Halt.FileFault) → Rose (F.faults files.old) (F.faults files.new) }
+    ensures sound { StaysSound F.is_sound F.faults files.old files.new }
+{
+    match read_start(alloc, Solo, words, files) {
+        Ok(Started::Usage) => Ok(misused(alloc)?),
+        Ok(Started::Told(pieces)) => Ok(told(alloc, pieces)),
+        Ok(Started::Plays(start)) => play(alloc, start, steps),
+        Err(refusal) => Err(refusal),
     }
 }
 
-// Does a task; over no files at all where it needs none.
-fn run_task<F: Files, S: Sink, L: Ledger>(
+// Plays the commands on this thread.
+fn play<L: Ledger>(
     alloc: Global,
-    task: Task,
+    start: Start<AloneEditor>,
+    steps: &mut Steps<L>,
+) -> Result<Output<AloneDesk>, Refusal<Halt>>
+    requires some { 1 ≤ start.capacity }
+    requires sized { IsSized editor_of start }
+    ensures told { IsOutput defold_tables result (out_of_play defold_tables start.frame.telling (Ok (seen_start editor_of start))) }
+    ensures desk { IfOk result (λ o. IsDeskOfStart (IsLeftAlone defold_tables) (Ok (seen_start editor_of start)) o.desk) }
+    ensures work { IfOk result (λ o. steps.new ≡ steps.old + made_by_start defold_tables (Ok (seen_start editor_of start))) }
+    ensures plain { start.frame.telling ≡ Telling.Sums → IsPlain result }
+    ensures no_fault { ¬ IsErrOf result (Refusal.Because Halt.FileFault) }
+    ensures status { IfOk result (λ o. o.status ≡ Status.Done) }
+{
+    let Start {
+        begin,
+        capacity,
+        frame,
+        ..
+    } = start;
+    let ending = play_alone(alloc, begin, capacity, frame.commands.as_slice(), steps)?;
+    finished(alloc, frame, ending)
+}
+
+/// Does all that was found out, or puts the one line of what ended the run before; none where a call of the files failed.
+/// The desk is kept where all of it was done.
+pub(crate) fn end_run<F: Files, S: Sink, D: Drop>(
+    alloc: Global,
+    output: Result<Output<D>, Refusal<Halt>>,
     files: &mut F,
     out: &mut S,
-    steps: &mut Steps<L>,
-) -> Ended
-    requires { IsInRange task }
-    ensures ends { IfSome (F.tree files.old)
-        (λ t. EndsAs (out_of_task defold_tables t task) result.status (F.tree files.old) (F.tree files.new) (S.bytes out.old) (S.bytes out.new)) }
-    ensures causes { HasCauses result.status (F.faults files.old) (F.faults files.new) (S.faults out.old) (S.faults out.new) }
-    ensures complete { IfSome (F.tree files.old)
-        (λ t. IsComplete (out_of_task defold_tables t task) result.status (F.faults files.old) (F.faults files.new) (S.faults out.old) (S.faults out.new)) }
-    ensures desk { result.status ≡ Status.Done → IfSome (F.tree files.old) (λ t. IsDeskOfTask defold_tables t task result.desk) }
-    ensures work { result.status ≡ Status.Done → IfSome (F.tree files.old) (λ t. steps.new ≡ steps.old + made_by_task defold_tables t task) }
+) -> Ended<D>
+    ensures ends { (due : Out) → IsOutput defold_tables output due →
+        EndsAs due result.status (F.tree files.old) (F.tree files.new) (S.bytes out.old) (S.bytes out.new) }
+    ensures complete { (due : Out) → IsOutput defold_tables output due → ¬ IsErrOf output (Refusal.Because Halt.FileFault) →
+        IsComplete due result.status (F.faults files.old) (F.faults files.new) (S.faults out.old) (S.faults out.new) }
+    ensures desk { result.status ≡ Status.Done → IfSomeOf output (λ o. result.desk ≡ o.desk) }
     ensures no_desk { ¬ (result.status ≡ Status.Done) → result.desk ≡ None }
-    ensures not_usage { ¬ (result.status ≡ Status.Usage) }
-    ensures untouched { NeedsNoFiles (Ok task) → files.new ≡ files.old }
-    ensures ends_over_none { NeedsNoFiles (Ok task) →
-        EndsAs (out_of_task defold_tables [] task) result.status (F.tree files.old) (F.tree files.new) (S.bytes out.old) (S.bytes out.new) }
-    ensures complete_over_none { NeedsNoFiles (Ok task) →
-        IsComplete (out_of_task defold_tables [] task) result.status (F.faults files.old) (F.faults files.new) (S.faults out.old) (S.faults out.new) }
-    ensures desk_over_none { NeedsNoFiles (Ok task) → result.status ≡ Status.Done → IsDeskOfTask defold_tables [] task result.desk }
-    ensures work_over_none { NeedsNoFiles (Ok task) → result.status ≡ Status.Done → steps.new ≡ steps.old + made_by_task defold_tables [] task }
-    ensures tree { WritesNothing (Ok task) → F.tree files.new ≡ F.tree files.old }
-    ensures files_failed { WritesNothing (Ok task) → result.status ≡ Status.FileFault → S.bytes out.new ≡ S.bytes out.old }
+    ensures usage { result.status ≡ Status.Usage → IfSomeOf output (λ o. o.status ≡ Status.Usage) }
+    ensures untouched { IsPlain output → files.new ≡ files.old }
+    ensures files_failed { IsPlain output → result.status ≡ Status.FileFault → S.bytes out.new ≡ S.bytes out.old }
+    ensures files_never_fall { F.faults files.old ≤ F.faults files.new }
+    ensures out_never_falls { S.faults out.old ≤ S.faults out.new }
+    ensures file_cause { result.status ≡ Status.FileFault → IsErrOf output (Refusal.Because Halt.FileFault) ⊎ Rose (F.faults files.old) (F.faults files.new) }
+    ensures sink_cause { result.status ≡ Status.SinkFault → Rose (S.faults out.old) (S.faults out.new) }
     ensures files_sound { StaysSound F.is_sound F.faults files.old files.new }
     ensures out_sound { StaysSound S.is_sound S.faults out.old out.new }
 {
-    if needs_no_files(&task) {
-        run_over_none(alloc, task, out, steps)
-    } else {
-        run_over(alloc, task, files, out, steps)
-    }
-}
-
-fn needs_no_files(task: &Task) -> bool
-    ensures { result ≡ needs_no_files task.now }
-{
-    match task {
-        Task::Gen { .. } => true,
-        Task::Run { .. } | Task::Check | Task::Build { .. } | Task::Format { .. } => false,
-    }
-}
-
-// Does a task that needs no files. What is said of a tree is so of any.
-fn run_over_none<S: Sink, L: Ledger>(
-    alloc: Global,
-    task: Task,
-    out: &mut S,
-    steps: &mut Steps<L>,
-) -> Ended
-    requires range { IsInRange task }
-    requires none { NeedsNoFiles (Ok task) }
-    ensures ends { (tree : Option Tree) → EndsAs (out_of_task defold_tables [] task) result.status tree tree (S.bytes out.old) (S.bytes out.new) }
-    ensures causes { (n : ℕ) → HasCauses result.status n n (S.faults out.old) (S.faults out.new) }
-    ensures complete { ¬ Rose (S.faults out.old) (S.faults out.new) →
-        (result.status ≡ (out_of_task defold_tables [] task).status) ⊎ (result.status ≡ Status.NoMemory) }
-    ensures desk { result.status ≡ Status.Done → IsDeskOfTask defold_tables [] task result.desk }
-    ensures work { result.status ≡ Status.Done → steps.new ≡ steps.old + made_by_task defold_tables [] task }
-    ensures no_desk { ¬ (result.status ≡ Status.Done) → result.desk ≡ None }
-    ensures not_usage { ¬ (result.status ≡ Status.Usage) }
-    ensures no_fault { ¬ (result.status ≡ Status.FileFault) }
-    ensures out_sound { StaysSound S.is_sound S.faults out.old out.new }
-{
-    let mut none = no_files(alloc);
-    run_over(alloc, task, &mut none, out, steps)
-}
-
-fn no_files(alloc: Global) -> MemFiles
-    ensures { result ≡ record { tree = []; calls = record { fails = []; made = 0; faults = 0 } } }
-{
-    MemFiles::new(alloc, Vec::new(alloc), Vec::new(alloc))
-}
-
-// Does a task over the files.
-fn run_over<F: Files, S: Sink, L: Ledger>(
-    alloc: Global,
-    task: Task,
-    files: &mut F,
-    out: &mut S,
-    steps: &mut Steps<L>,
-) -> Ended
-    requires { IsInRange task }
-    ensures ends { IfSome (F.tree files.old)
-        (λ t. EndsAs (out_of_task defold_tables t task) result.status (F.tree files.old) (F.tree files.new) (S.bytes out.old) (S.bytes out.new)) }
-    ensures causes { HasCauses result.status (F.faults files.old) (F.faults files.new) (S.faults out.old) (S.faults out.new) }
-    ensures complete { IfSome (F.tree files.old)
-        (λ t. IsComplete (out_of_task defold_tables t task) result.status (F.faults files.old) (F.faults files.new) (S.faults out.old) (S.faults out.new)) }
-    ensures desk { result.status ≡ Status.Done → IfSome (F.tree files.old) (λ t. IsDeskOfTask defold_tables t task result.desk) }
-    ensures work { result.status ≡ Status.Done → IfSome (F.tree files.old) (λ t. steps.new ≡ steps.old + made_by_task defold_tables t task) }
-    ensures no_desk { ¬ (result.status ≡ Status.Done) → result.desk ≡ None }
-    ensures not_usage { ¬ (result.status ≡ Status.Usage) }
-    ensures tree { WritesNothing (Ok task) → F.tree files.new ≡ F.tree files.old }
-    ensures files_failed { WritesNothing (Ok task) → result.status ≡ Status.FileFault → S.bytes out.new ≡ S.bytes out.old }
-    ensures files_sound { StaysSound F.is_sound F.faults files.old files.new }
-    ensures out_sound { StaysSound S.is_sound S.faults out.old out.new }
-{
-    match output_of(alloc, task, files, steps) {
+    match output {
         Ok(output) => do_output(alloc, files, out, output),
-        Err(Refusal::Because(halt)) => Ended {
-            status: put_halt(alloc, out, halt),
-            desk: None,
-        },
-        Err(Refusal::NoMemory) => Ended {
-            status: Status::NoMemory,
+        Err(refusal) => Ended {
+            status: put_refusal(alloc, out, refusal),
             desk: None,
         },
     }
 }
 
 // Does all that a run does that is done. Its desk is kept where all of it was done.
-fn do_output<F: Files, S: Sink>(alloc: Global, files: &mut F, out: &mut S, output: Output) -> Ended
-    ensures done { AreDone Status.Done (deeds_of defold_tables output) result.status (F.tree files.old) (F.tree files.new) (S.bytes out.old) (S.bytes out.new) }
+fn do_output<F: Files, S: Sink, D: Drop>(
+    alloc: Global,
+    files: &mut F,
+    out: &mut S,
+    output: Output<D>,
+) -> Ended<D>
+    ensures done { AreDone output.status (deeds_of defold_tables output) result.status (F.tree files.old) (F.tree files.new) (S.bytes out.old) (S.bytes out.new) }
     ensures desk { result.status ≡ Status.Done → result.desk ≡ output.desk }
     ensures no_desk { ¬ (result.status ≡ Status.Done) → result.desk ≡ None }
+    ensures untouched { ArePlain output.pieces.items → files.new ≡ files.old }
     ensures causes { HasCauses result.status (F.faults files.old) (F.faults files.new) (S.faults out.old) (S.faults out.new) }
     ensures files_sound { StaysSound F.is_sound F.faults files.old files.new }
     ensures out_sound { StaysSound S.is_sound S.faults out.old out.new }
 {
     match do_pieces(alloc, files, out, output.pieces, &output.names) {
         Ok(()) => Ended {
-            status: Status::Done,
+            status: output.status,
             desk: output.desk,
         },
         Err(stop) => Ended {
@@ -236,27 +192,20 @@ fn do_output<F: Files, S: Sink>(alloc: Global, files: &mut F, out: &mut S, outpu
     }
 }
 
-fn put_usage<S: Sink>(alloc: Global, out: &mut S) -> Status
-    ensures put { IsPut Status.Usage usage_lines result (S.bytes out.old) (S.bytes out.new) }
-    ensures cause { result ≡ Status.SinkFault → (Status.Usage ≡ Status.SinkFault) ⊎ Rose (S.faults out.old) (S.faults out.new) }
+// The one line of what ended the run; none where memory was wanted.
+fn put_refusal<S: Sink>(alloc: Global, out: &mut S, refusal: Refusal<Halt>) -> Status
+    ensures put { IsRefused refusal result (S.bytes out.old) (S.bytes out.new) }
+    ensures cause { result ≡ Status.SinkFault → Rose (S.faults out.old) (S.faults out.new) }
     ensures never_falls { S.faults out.old ≤ S.faults out.new }
     ensures sound { StaysSound S.is_sound S.faults out.old out.new }
 {
-    match lines_of_usage(alloc) {
-        Ok(lines) => put(out, Status::Usage, &lines),
-        Err(_) => Status::NoMemory,
+    match refusal {
+        Refusal::Because(halt) => put_halt(alloc, out, halt),
+        Refusal::NoMemory => Status::NoMemory,
     }
 }
 
-fn lines_of_usage(alloc: Global) -> Result<Lines, AllocError>
-    ensures { IfOk result (λ l. l ≡ usage_lines) }
-{
-    let mut lines = Lines::new(alloc);
-    lines.push(text::error(alloc, b"usage")?)?;
-    Ok(lines)
-}
-
-// The one line of what ended the run; none where a call of the files failed.
+// The one line of a cause; none where a call of the files failed.
 fn put_halt<S: Sink>(alloc: Global, out: &mut S, halt: Halt) -> Status
     ensures put { IsPut (status_of halt) (halt_lines halt) result (S.bytes out.old) (S.bytes out.new) }
     ensures cause { result ≡ Status.SinkFault → (status_of halt ≡ Status.SinkFault) ⊎ Rose (S.faults out.old) (S.faults out.new) }

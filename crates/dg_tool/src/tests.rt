@@ -6,6 +6,7 @@ use crate::cases::{
     WORDS_ENDED,
 };
 use crate::{Ended, run_alone};
+use dg_alone::AloneDesk;
 use dg_base::Steps;
 use dg_files::{MemFiles, MemSink, are_distinct};
 use itoa::Buffer;
@@ -70,7 +71,7 @@ fn ended<L: Ledger>(
     files: &mut MemFiles,
     out: &mut MemSink,
     blank: Blank,
-) -> Ended
+) -> Ended<AloneDesk>
     requires name { blank.name ≡ L.name }
     requires parts { blank.parts ≡ L.parts }
     requires some { 0 < blank.parts }
@@ -84,7 +85,7 @@ pub(crate) fn played(
     words: &[String],
     files: &mut MemFiles,
     out: &mut MemSink,
-) -> Ended {
+) -> Ended<AloneDesk> {
     ended::<Brand>(alloc, words, files, out, Blank::new(1))
 }
 
@@ -93,7 +94,7 @@ pub(crate) fn run(
     alloc: Global,
     words: &str,
     outside: &Outside<'_>,
-) -> Result<(Ended, Vec<u8>), AllocError> {
+) -> Result<(Ended<AloneDesk>, Vec<u8>), AllocError> {
     let words = words_of(alloc, words)?;
     let mut files = project_of(
         alloc,

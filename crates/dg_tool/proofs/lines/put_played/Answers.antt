@@ -2,10 +2,11 @@ use Rattle.std.proofs.Common.{◌≡◌, ◌++◌, ◌∷◌, [], List, map, sym
 use Rattle.std.specs.Vec.Iter.{into_iter_items}
 use Rattle.std.proofs.lemmas.List.{map-append}
 use Rattle.dg_kinds_coll.specs.Defold.{defold_tables}
+use Rattle.dg_asks.specs.Asks.{Ask}
 use Rattle.dg_play.specs.declared.reply.Line.{Line}
 use Rattle.dg_tool.specs.declared.piece.Piece.{Piece}
 use Rattle.dg_tool.specs.Seen.{fitting_pieces, line_piece}
-use Rattle.dg_tool.proofs.Taking.{rest-next}
+use Rattle.dg_shared.proofs.Taking.{rest-next}
 use Rattle.dg_tool.proofs.Tellings.{gives-handed}
 use Rattle.dg_tool.proofs.TextSizes.{fitting-front, fitting-same}
 use Rattle.dg_tool.proofs.lines.put_played.Goals as goal
@@ -13,7 +14,7 @@ use Rattle.dg_tool.proofs.lines.put_played.Goals as goal
 pub loop-line-preserved : goal.loop-line-preserved
 loop-line-preserved c =
     let before = c.args.page.now in let yielded = c.loop-line.yielded in let line = c.in-Some.line in
-    let piece : Line → Piece = line_piece defold_tables c.args.names.now in
+    let piece : Line Ask → Piece = line_piece defold_tables c.args.names.now in
     record {
       page =
           fitting-same (c.loop-line.page ++ c.in_ok-piece_of.field-0 ∷ []) c.put.new.self c.in_ok-put.ensures
@@ -26,7 +27,7 @@ loop-line-preserved c =
 pub returns-in_err-put : goal.returns-in_err-put
 returns-in_err-put c =
     let before = c.args.page.now in let yielded = c.loop-line.yielded in let line = c.in-Some.line in let lines = c.args.lines.items in
-    let piece : Line → Piece = line_piece defold_tables c.args.names.now in
+    let piece : Line Ask → Piece = line_piece defold_tables c.args.names.now in
     let left = into_iter_items c.next.new.self in
     let rest : (yielded ++ line ∷ []) ++ left ≡ lines =
     rest-next c.loop-line.line-iterator c.next.new.self c.next.result line c.in-Some.is c.next.ensures.steps lines yielded c.loop-line.invariant.rest in
