@@ -1,29 +1,43 @@
 //! The program `defold_graph`: plays a script over the files below the current folder.
 //!
-//! Its words go to `dg_tool::run_alone`, whose contract says what is printed, and its status is the
-//! run's.
+//! Its words go to `dg_tool::run_tool`, whose contract says what is printed and written, and its status is the run's.
 #![tactic(auto)]
 
 ghost use Rattle.std.specs.Prelude.{◌≡◌, ◌<◌};
 
 #[cfg(test)]
+mod gates;
+#[cfg(test)]
 mod tests;
 
 use dg_base::Steps;
 use dg_files::{DirFiles, StdSink};
-use dg_tool::{Status, run_alone};
+use dg_kinds_coll::Defold;
+use dg_line::{LineName, Revision, Rows};
+use dg_pool::OpenGate;
+use dg_tool::{Status, run_tool};
 use std::env;
 use std::io::ErrorKind;
 use std::marker::Brand;
 use std::process::ExitCode;
 use std::rt::{Env, Files};
+use std::sync::Wait;
 use std::sync::ledger::{Blank, Ledger};
+use std::thread::Threads;
 
 fn main(rt: HostRuntime) -> ExitCode {
-    ExitCode::from(status_of::<Brand, HostRuntime>(rt, Blank::new(1)))
+    let Ok(rows) = Rows::new(rt.alloc()) else {
+        return ExitCode::from(Status::NoMemory.code());
+    };
+    ExitCode::from(status_of::<Brand, Brand, HostRuntime>(rt, rows, Blank::new(1)))
 }
 
-fn status_of<L: Ledger, R: Files + Env + Print + AllocGlobal + Copy>(rt: R, blank: Blank) -> u8
+fn status_of<
+    J: LineName + Send + Sync,
+    L: Ledger,
+    R: Files + Env + Print + AllocGlobal + Threads + Wait + Drop + Send + Sync + Copy,
+>(rt: R, rows: Rows<Revision<Defold>>, blank: Blank) -> u8
+    requires rows { rows ≡ J.shelves }
     requires name { blank.name ≡ L.name }
     requires parts { blank.parts ≡ L.parts }
     requires some { 0 < blank.parts }
@@ -41,7 +55,15 @@ fn status_of<L: Ledger, R: Files + Env + Print + AllocGlobal + Copy>(rt: R, blan
     };
     let mut files = DirFiles::new(rt, root);
     let mut out = StdSink::new(rt);
-    run_alone(alloc, words.as_slice(), &mut files, &mut out, &mut steps)
-        .status
-        .code()
+    let ended = run_tool::<DirFiles<R>, StdSink<R>, OpenGate, J, R, L>(
+        rt,
+        alloc,
+        rows,
+        words.as_slice(),
+        &mut files,
+        &mut out,
+        &OpenGate,
+        &mut steps,
+    );
+    ended.status.code()
 }
